@@ -1,0 +1,123 @@
+-- What an allowed resolution gives: bounds on its decimals, its step and its unit.
+-- Assumes nothing.
+use Prim.Native.Nat.{ℕ, _*_, _^_, _≤_, _<_}
+use native.Mathlib.Nat.{mul-pos, mul-le-mul, one-le-pow, pow-le-pow-right}
+use native.Mathlib.Omega.{arith}
+use mathlib.Core.Path.{_≡_, refl}
+use mathlib.Core.Logic.{_⊎_, inl, inr, ⊎-elim}
+use mathlib.Core.Bool.{Bool, true, false, _&&_, _||_}
+use borrow.Author.Tests.{leb-true, eqb-true}
+use lib.Dec.{leb, eqb}
+use Rattle.weight.specs.declared.units.WeightUnit.{WeightUnit}
+use Rattle.weight.specs.declared.units.WeightUnit.the-variants.{G, Mg, Ct, Oz, Ozt, Gn, Dwt}
+use Rattle.weight.specs.declared.rounding.Resolution.{Resolution}
+use Rattle.weight.specs.Units.{nanogramsOf}
+use Rattle.weight.specs.Rounding.{allowedResolution}
+
+-- an `and` holds when both its tests do
+pub both-hold : (a b : Bool) → a ≡ true → b ≡ true → a && b ≡ true
+both-hold true b h k = k
+both-hold false b h k = h
+
+-- the first test of an `and` that holds
+pub both-left : (a b : Bool) → a && b ≡ true → a ≡ true
+both-left true b h = search
+both-left false b h = search
+
+-- the second
+pub both-right : (a b : Bool) → a && b ≡ true → b ≡ true
+both-right true b h = search
+both-right false b h = search
+
+-- one test of an `or` holds
+pub either-holds : (a b : Bool) → a || b ≡ true → (a ≡ true) ⊎ (b ≡ true)
+either-holds true b h = inl refl
+either-holds false b h = inr h
+
+-- every unit weighs something
+pub nanograms-positive : (u : WeightUnit) → 0 < nanogramsOf u
+nanograms-positive G = omega arith
+nanograms-positive Mg = omega arith
+nanograms-positive Ct = omega arith
+nanograms-positive Oz = omega arith
+nanograms-positive Ozt = omega arith
+nanograms-positive Gn = omega arith
+nanograms-positive Dwt = omega arith
+
+-- the troy ounce is the heaviest unit
+pub nanograms-limit : (u : WeightUnit) → nanogramsOf u ≤ 31_103_476_800
+nanograms-limit G = omega arith
+nanograms-limit Mg = omega arith
+nanograms-limit Ct = omega arith
+nanograms-limit Oz = omega arith
+nanograms-limit Ozt = omega arith
+nanograms-limit Gn = omega arith
+nanograms-limit Dwt = omega arith
+
+-- the three tests of a resolution
+abbrev decimalsTest : Resolution → Bool
+decimalsTest r = leb (r .decimals) 6
+
+abbrev stepTest : Resolution → Bool
+stepTest r = eqb (r .step) 1 || eqb (r .step) 2 || eqb (r .step) 5
+
+abbrev leastTest : Resolution → Bool
+leastTest r = leb (1000 * 10 ^ (r .decimals)) (r .step * nanogramsOf (r .unit))
+
+-- decimals 0 to 6
+pub allowed-decimals : (r : Resolution) → allowedResolution r ≡ true → r .decimals ≤ 6
+unfolding allowedResolution
+allowed-decimals r h =
+    leb-true
+    (r .decimals)
+    6
+    (both-left (decimalsTest r) (stepTest r) (both-left (decimalsTest r && stepTest r) (leastTest r) h))
+
+-- step 1, 2 or 5
+pub allowed-step : (r : Resolution) → allowedResolution r ≡ true → (r .step ≡ 1) ⊎ ((r .step ≡ 2) ⊎ (r .step ≡ 5))
+unfolding allowedResolution
+allowed-step r h =
+    ⊎-elim
+    (λ low.
+    ⊎-elim
+    (λ e. inl (eqb-true _ _ e))
+    (λ e. inr (inl (eqb-true _ _ e)))
+    (either-holds (eqb (r .step) 1) (eqb (r .step) 2) low))
+    (λ e. inr (inr (eqb-true _ _ e)))
+    (either-holds
+    _
+    _
+    (both-right (decimalsTest r) (stepTest r) (both-left (decimalsTest r && stepTest r) (leastTest r) h)))
+
+-- the step is at least one microgram
+pub allowed-least-step
+    : (r : Resolution) → allowedResolution r ≡ true → 1000 * 10 ^ (r .decimals) ≤ r .step * nanogramsOf (r .unit)
+unfolding allowedResolution
+allowed-least-step r h = leb-true _ _ (both-right (decimalsTest r && stepTest r) (leastTest r) h)
+
+-- no step of zero
+pub allowed-step-positive : (r : Resolution) → allowedResolution r ≡ true → 0 < r .step
+allowed-step-positive r h =
+    ⊎-elim (λ e. omega arith) (λ e. ⊎-elim (λ e. omega arith) (λ e. omega arith) e) (allowed-step r h)
+
+-- no step above five
+pub allowed-step-limit : (r : Resolution) → allowedResolution r ≡ true → r .step ≤ 5
+allowed-step-limit r h =
+    ⊎-elim (λ e. omega arith) (λ e. ⊎-elim (λ e. omega arith) (λ e. omega arith) e) (allowed-step r h)
+
+-- what a rounding divides by is positive
+pub allowed-divisor-positive : (r : Resolution) → allowedResolution r ≡ true → 0 < r .step * nanogramsOf (r .unit)
+allowed-divisor-positive r h = mul-pos (allowed-step-positive r h) (nanograms-positive (r .unit))
+
+-- and at most five troy ounces, so that it stays far from what a machine word holds
+pub allowed-divisor-limit
+    : (r : Resolution) → allowedResolution r ≡ true → r .step * nanogramsOf (r .unit) ≤ 155_517_384_000
+allowed-divisor-limit r h = mul-le-mul (allowed-step-limit r h) (nanograms-limit (r .unit))
+
+-- a power of ten is positive
+pub power-positive : (d : ℕ) → 0 < 10 ^ d
+power-positive d = one-le-pow d 10 (omega arith)
+
+-- up to 6 decimals, 10^d is a million at most
+pub power-limit : (d : ℕ) → d ≤ 6 → 10 ^ d ≤ 1_000_000
+power-limit d h = pow-le-pow-right (omega arith) h

@@ -1,0 +1,123 @@
+-- What is read of a field: the minus, the zeros that lead, the sign and the whole.
+-- Assumes nothing.
+use mathlib.Core.Path.{_≡_, refl, _∙_, sym, ap, subst}
+use mathlib.Core.Bool.{Bool, true, false, not, _&&_}
+use mathlib.Core.List.{List, [], _∷_}
+use Prim.Native.Nat.{ℕ, zero, suc, _-_, _≤_, _<_}
+use native.Mathlib.Omega.{arith}
+use lib.Dec.{eqb, ltb}
+use lib.IntN.{ℤ, pos, negℤ}
+use lib.ListN.{length, getD, take, drop, length-drop}
+use lib.Seq.{length-take-le, getD-take}
+use mir.Syntax.{w64}
+use mir.Val.{SFits, toZ, ofZ}
+use mir.Facts.{toZ-ofZ}
+use borrow.Author.Tests.{eq-eqb, ne-eqb, le-leb, lt-leb}
+use Rattle.weight.specs.declared.reading.FieldRead.{FieldRead}
+use Rattle.weight.specs.declared.reading.FieldRead.the-variants.{Number, NoNumber}
+use Rattle.weight.specs.declared.rounding.LastPlaces.{LastPlaces}
+use Rattle.weight.specs.Ascii.{minus}
+use Rattle.weight.specs.Decimals.{PointAt, ReadsDecimal, MinusAt}
+use Rattle.weight.specs.Reading.{beforePoint, hasMinus, afterMinus, noLeadingZero, signed, isDecimal, valueIn, decimalsIn, isWritten, readNumber, readField, afterSpaces}
+use Rattle.weight.proofs.DecimalText.{both, rest-is}
+
+-- ---- the first byte
+
+-- an empty text, a minus and any other byte
+pub nothing-first : (t : List ℕ) → length t < 1 → MinusAt t 0
+nothing-first [] h = record { in-text = omega arith; after = refl; has = refl }
+nothing-first (c ∷ t) h = absurd (omega arith)
+
+pub minus-first : (t : List ℕ) → 1 ≤ length t → getD t 0 0 ≡ minus → MinusAt t 1
+minus-first [] h e = absurd (omega arith)
+minus-first (c ∷ t) h e = let m = eq-eqb c minus e in record { in-text = omega arith; after = rw m; has = rw m }
+
+pub other-first : (t : List ℕ) → 1 ≤ length t → (getD t 0 0 ≡ minus → ⊥) → MinusAt t 0
+other-first [] h e = absurd (omega arith)
+other-first (c ∷ t) h n = let m = ne-eqb c minus n in record { in-text = omega arith; after = rw m; has = rw m }
+
+-- ---- the zeros that lead
+
+module _ (t : List ℕ) (i : ℕ) (p : PointAt t i) where
+  before-length : length (beforePoint t) ≡ i
+  before-length = ap length (sym (p .before)) ∙ length-take-le i t (p .in-text)
+
+  -- one digit before the point, and more
+  pub one-place : i ≤ 1 → true ≡ noLeadingZero (beforePoint t)
+  one-place h = rw (before-length, le-leb i 1 h)
+
+  pub first-place : 1 < i → not (eqb (getD t 0 0) 48) ≡ noLeadingZero (beforePoint t)
+  first-place h = rw (before-length, lt-leb i 1 h, ← p .before, getD-take i t 0 0 (omega arith))
+
+-- ---- the sign
+
+-- ten digits fit a signed word, below zero too
+pub small-fits : (n : ℕ) → n < 10_000_000_000 → SFits w64 (pos n)
+small-fits n h = record { sfits = omega arith }
+
+pub opposite-fits : (n : ℕ) → n < 10_000_000_000 → SFits w64 (negℤ (pos n))
+opposite-fits zero h = record { sfits = omega arith }
+opposite-fits (suc n) h = record { sfits = omega arith }
+
+-- a number below zero, and one that is not
+pub below-places : (b : Bool) (m : ℕ) (n z : ℤ) → b ≡ true → n ≡ pos m → z ≡ negℤ n → m < 10_000_000_000 → toZ w64 (ofZ w64 z) ≡ signed b m
+below-places b m n z e p q h = rw (e, q, p) (toZ-ofZ (opposite-fits m h))
+
+pub other-places : (b : Bool) (m : ℕ) (n : ℤ) → b ≡ false → n ≡ pos m → m < 10_000_000_000 → toZ w64 (ofZ w64 n) ≡ signed b m
+other-places b m n e p h = rw (e, p) (toZ-ofZ (small-fits m h))
+
+-- ---- the whole number
+
+-- what follows the first i bytes is no longer than the text
+pub rest-short : (t : List ℕ) (i : ℕ) → length t ≤ 10 → length (take (length t - i) (drop i t)) ≤ 10
+rest-short t i h = rw (rest-is i t, length-drop i t) (omega arith)
+
+module _ (t : List ℕ) (i : ℕ) (m : MinusAt t i) (good shortest : Bool) (d v : ℕ)
+    (r : ReadsDecimal (take (length t - i) (drop i t)) good d v)
+    (s : shortest ≡ noLeadingZero (beforePoint (take (length t - i) (drop i t)))) where
+  digits : take (length t - i) (drop i t) ≡ afterMinus t
+  digits = rest-is i t ∙ m .after
+
+  decimal : ReadsDecimal (afterMinus t) good d v
+  decimal = subst (λ (l : List ℕ). ReadsDecimal l good d v) digits r
+
+  -- the code's test is the definition's
+  written : good && shortest && not (ltb 0 i && eqb v 0) ≡ isWritten t
+  unfolding isWritten
+  written = rw (decimal .is, s, digits, m .has) (go (isDecimal (afterMinus t)) refl)
+    where
+      go : (b : Bool)
+          → isDecimal (afterMinus t) ≡ b
+          → b && noLeadingZero (beforePoint (afterMinus t)) && not (hasMinus t && eqb v 0)
+          ≡ b && noLeadingZero (beforePoint (afterMinus t)) && not (hasMinus t && eqb (valueIn (afterMinus t)) 0)
+      go true e = rw (decimal .number, e)
+      go false e = refl
+
+  -- the test holds: the number
+  pub read-written : (p : LastPlaces) → good && shortest && not (ltb 0 i && eqb v 0) ≡ true → p .0 ≡ signed (ltb 0 i) v → Number d p ≡ readNumber t
+  unfolding readNumber
+  read-written p e q =
+      let g : good ≡ true = both good shortest (both (good && shortest) (not (ltb 0 i && eqb v 0)) e .0) .0 in
+      let is : isDecimal (afterMinus t) ≡ true = sym (decimal .is) ∙ g in
+      let dn : d ≡ decimalsIn (afterMinus t) = decimal .places ∙ rw is in
+      let vn : v ≡ valueIn (afterMinus t) = decimal .number ∙ rw is in
+      let z : p .0 ≡ signed (hasMinus t) (valueIn (afterMinus t)) = q ∙ rw (m .has, vn) in
+      rw (sym written ∙ e)
+      (ap (λ (x : ℕ). Number x p) dn ∙ ap (λ (x : ℤ). Number (decimalsIn (afterMinus t)) (record { 0 = x })) z)
+
+  -- the test fails: none
+  pub not-written : good && shortest && not (ltb 0 i && eqb v 0) ≡ false → NoNumber ≡ readNumber t
+  unfolding readNumber
+  not-written e = rw (sym written ∙ e)
+
+-- ---- the field
+
+-- any length but ten
+pub wrong-width : (l : List ℕ) → (length l ≡ 10 → ⊥) → NoNumber ≡ readField l
+unfolding readField
+wrong-width l n = rw (ne-eqb (length l) 10 n)
+
+-- ten characters, i of which are the leading spaces
+pub field-read : (l : List ℕ) (i : ℕ) (x : FieldRead) → length l ≡ 10 → drop i l ≡ afterSpaces l → x ≡ readNumber (take (length l - i) (drop i l)) → x ≡ readField l
+unfolding readField
+field-read l i x h a e = rw (eq-eqb (length l) 10 h) (e ∙ ap readNumber (rest-is i l ∙ a))

@@ -1,0 +1,186 @@
+-- Rounding to the nearest: how far the rounded number stands from the exact one.
+-- Assumes nothing.
+use Prim.Native.Nat.{ℕ, suc, _+_, _-_, _*_, _/_, _%_, _^_, _≤_, _<_}
+use native.Mathlib.Nat.{div-mul-le-self, lt-div-mul-add, div-add-mod', mod-lt, div-eq-of-lt-le, mul-le-mul-right, mul-pos, mul-assoc, add-sub-of-le}
+use native.Mathlib.Omega.{arith}
+use mathlib.Core.Path.{_≡_, ap}
+use mathlib.Core.Bool.{true}
+use lib.Pow.{pow-add}
+use lib.IntN.{ℤ, pos, negsuc, _-ℤ_}
+use Rattle.weight.specs.declared.units.WeightUnit.{WeightUnit}
+use Rattle.weight.specs.declared.rounding.Resolution.{Resolution}
+use Rattle.weight.specs.Units.{nanogramsOf}
+use Rattle.weight.specs.Rounding.{allowedResolution, halfUp, placesOf, placeFemtograms, stepFemtograms, printedFemtograms, exactFemtograms, Near}
+use Rattle.weight.specs.Typed.{typedMicrograms, typedFemtograms}
+use Rattle.weight.proofs.Allowed.{allowed-decimals, allowed-divisor-positive, power-positive}
+use Rattle.weight.proofs.Monotone.{naturalPlaces, places-of-pos, places-of-negsuc, times-odd}
+use Rattle.weight.proofs.Nearness.{near-naturals, near-negated, near-triangle, near-shift, difference-times}
+
+-- the rounded multiple of n is at most half of n above m
+pub half-up-not-over : (m n : ℕ) → 2 * (n * halfUp m n) ≤ 2 * m + n
+unfolding halfUp
+half-up-not-over m n = omega (arith, div-mul-le-self (2 * m + n) (2 * n))
+
+-- and less than half of n below m: a tie goes up
+pub half-up-tie-up : (m n : ℕ) → 0 < n → 2 * m < 2 * (n * halfUp m n) + n
+unfolding halfUp
+half-up-tie-up m n h =
+    let double : 0 < 2 * n = omega arith in omega (arith, lt-div-mul-add {a = 2 * m + n} double)
+
+-- twice the distance between the rounded multiple of n and m is at most n
+pub half-up-near : (m n : ℕ) → 0 < n → (2 * (n * halfUp m n) ≤ 2 * m + n) × (2 * m ≤ 2 * (n * halfUp m n) + n)
+half-up-near m n h = omega (arith, half-up-not-over m n, half-up-tie-up m n h)
+
+-- no other whole number is as near
+pub half-up-only : (m n q : ℕ) → 0 < n → 2 * (n * q) ≤ 2 * m + n → 2 * m < 2 * (n * q) + n → halfUp m n ≡ q
+unfolding halfUp
+half-up-only m n q h below above = div-eq-of-lt-le (2 * n) (omega arith) (omega arith)
+
+-- a rest below half of n is dropped
+pub half-up-stays : (m n : ℕ) → 0 < n → 2 * (m % n) < n → halfUp m n ≡ m / n
+half-up-stays m n h rest =
+    half-up-only m n (m / n) h (omega (arith, div-add-mod' m n)) (omega (arith, div-add-mod' m n))
+
+-- a rest of half of n or more counts as one
+pub half-up-rises : (m n : ℕ) → 0 < n → n ≤ 2 * (m % n) → halfUp m n ≡ m / n + 1
+half-up-rises m n h rest =
+    half-up-only
+    m
+    n
+    (m / n + 1)
+    h
+    (omega (arith, div-add-mod' m n))
+    (omega (arith, div-add-mod' m n, mod-lt m h))
+
+-- ---- the printed number
+
+-- up to 6 decimals, the scale to last places and the one to femtograms multiply to a microgram's femtograms
+scale-split : (d : ℕ) → d ≤ 6 → 1000 * 10 ^ d * 10 ^ (6 - d) ≡ 1_000_000_000
+scale-split d h = rw (mul-assoc 1000, ← (pow-add 10 d), add-sub-of-le h)
+
+-- m micrograms, printed: s and e are the two scales, t their product, k the step and u the unit
+printed-over
+    : (k u e s t m : ℕ) → s * e ≡ t → 2 * (halfUp (m * s) (k * u) * k * (u * e)) ≤ 2 * (m * t) + k * (u * e)
+printed-over k u e s t m scales =
+    omega (arith, mul-le-mul-right e (half-up-not-over (m * s) (k * u)), ap (λ (x : ℕ). m * x) scales)
+
+-- nor is the printed number too low
+printed-under
+    : (k u e s t m : ℕ)
+    → s * e ≡ t
+    → 0 < k * u
+    → 2 * (m * t) ≤ 2 * (halfUp (m * s) (k * u) * k * (u * e)) + k * (u * e)
+printed-under k u e s t m scales h =
+    omega (arith, mul-le-mul-right e (half-up-near (m * s) (k * u) h .1), ap (λ (x : ℕ). m * x) scales)
+
+-- the law below for a net weight that is not negative
+natural-half-step
+    : (r : Resolution) (m : ℕ)
+    → allowedResolution r ≡ true
+    → Near (stepFemtograms r) (printedFemtograms r (pos (naturalPlaces r m))) (exactFemtograms (pos m))
+unfolding stepFemtograms placeFemtograms printedFemtograms exactFemtograms
+natural-half-step r m h =
+    near-naturals
+    _
+    _
+    _
+    (printed-over (r .step) _ (10 ^ (6 - r .decimals)) _ _ m (scale-split (r .decimals) (allowed-decimals r h)))
+    (printed-under
+    (r .step)
+    _
+    (10 ^ (6 - r .decimals))
+    _
+    _
+    m
+    (scale-split (r .decimals) (allowed-decimals r h))
+    (allowed-divisor-positive r h))
+
+-- the printed number is within half a display step of the exact net weight
+pub half-step
+    : (r : Resolution) (net : ℤ)
+    → allowedResolution r ≡ true
+    → Near (stepFemtograms r) (printedFemtograms r (placesOf r net)) (exactFemtograms net)
+unfolding printedFemtograms exactFemtograms
+half-step r (pos m) h = rw (places-of-pos r m) (natural-half-step r m h)
+half-step r (negsuc m) h =
+    rw
+    (places-of-negsuc r m, times-odd (pos (naturalPlaces r (suc m))))
+    (near-negated _ _ _ (natural-half-step r (suc m) h))
+
+-- ---- a typed number
+
+-- v last places of a unit of w nanograms, to the nearest microgram: s and e are the two scales, t their product
+typed-over : (w e s t v : ℕ) → s * e ≡ t → 2 * (halfUp (v * w) s * t) ≤ 2 * (v * w * e) + t
+typed-over w e s t v scales =
+    omega
+    (arith, mul-le-mul-right e (half-up-not-over (v * w) s), ap (λ (x : ℕ). halfUp (v * w) s * x) scales, scales)
+
+-- nor is the stored number too low
+typed-under : (w e s t v : ℕ) → s * e ≡ t → 0 < s → 2 * (v * w * e) ≤ 2 * (halfUp (v * w) s * t) + t
+typed-under w e s t v scales h =
+    omega
+    (arith, mul-le-mul-right e (half-up-near (v * w) s h .1), ap (λ (x : ℕ). halfUp (v * w) s * x) scales, scales)
+
+-- what a typed number is stored as is within half a microgram of it
+pub typed-near
+    : (u : WeightUnit) (d v : ℕ)
+    → d ≤ 6
+    → Near 1_000_000_000 (exactFemtograms (pos (typedMicrograms u d v))) (pos (typedFemtograms u d v))
+unfolding exactFemtograms typedMicrograms typedFemtograms
+typed-near u d v h =
+    near-naturals
+    _
+    _
+    _
+    (typed-over (nanogramsOf u) (10 ^ (6 - d)) (1000 * 10 ^ d) _ v (scale-split d h))
+    (typed-under
+    (nanogramsOf u)
+    (10 ^ (6 - d))
+    (1000 * 10 ^ d)
+    _
+    v
+    (scale-split d h)
+    (mul-pos {m = 1000} (omega arith) (power-positive d)))
+
+-- ---- a stored tare that is half a microgram off
+
+-- femtograms of a difference
+pub exact-difference
+    : (a b : ℤ) → exactFemtograms (a -ℤ b) ≡ exactFemtograms a -ℤ exactFemtograms b
+unfolding exactFemtograms
+exact-difference a b = difference-times a b 1_000_000_000
+
+-- the printed net is off by that half microgram more
+pub typed-net-near
+    : (r : Resolution) (gross tare exact : ℤ)
+    → allowedResolution r ≡ true
+    → Near 1_000_000_000 (exactFemtograms tare) exact
+    → Near
+    (stepFemtograms r + 1_000_000_000)
+    (printedFemtograms r (placesOf r (gross -ℤ tare)))
+    (exactFemtograms gross -ℤ exact)
+typed-net-near r gross tare exact h off =
+    near-triangle
+    (stepFemtograms r)
+    1_000_000_000
+    (printedFemtograms r (placesOf r (gross -ℤ tare)))
+    (exactFemtograms (gross -ℤ tare))
+    (exactFemtograms gross -ℤ exact)
+    (half-step r (gross -ℤ tare) h)
+    (rw (exact-difference gross tare) (near-shift 1_000_000_000 (exactFemtograms gross) (exactFemtograms tare) exact off))
+
+-- and so is the printed tare
+pub typed-tare-near
+    : (r : Resolution) (tare exact : ℤ)
+    → allowedResolution r ≡ true
+    → Near 1_000_000_000 (exactFemtograms tare) exact
+    → Near (stepFemtograms r + 1_000_000_000) (printedFemtograms r (placesOf r tare)) exact
+typed-tare-near r tare exact h off =
+    near-triangle
+    (stepFemtograms r)
+    1_000_000_000
+    (printedFemtograms r (placesOf r tare))
+    (exactFemtograms tare)
+    exact
+    (half-step r tare h)
+    off

@@ -1,0 +1,22 @@
+pub mod Allowed
+pub mod BenchCases
+mod DecimalText
+pub mod Digits
+mod Ending
+pub mod EveryNet
+mod FieldText
+pub mod HalfStep
+mod Machine
+pub mod Monotone
+pub mod Named
+pub mod Nearness
+mod Nearest
+mod NumberText
+mod Printable
+mod Range
+pub mod ReadBack
+mod SameText
+mod Table
+mod TypedLimit
+pub mod Width
+pub mod WriteBack

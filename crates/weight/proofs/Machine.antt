@@ -1,0 +1,82 @@
+-- Signed machine operations as integers: what an operation asks of its operands and what it gives.
+-- Assumes nothing.
+use mathlib.Core.Path.{_≡_, refl, sym, ap, _∙_, subst}
+use mathlib.Core.Bool.{Bool, true, false, not}
+use Prim.Native.Nat.{ℕ, zero, suc, _+_, _/_, _%_, _<_, _≤_, _^_, zero-le}
+use native.Mathlib.Nat.{div-le-self, lt-of-le-of-lt, le-of-suc-le-suc}
+use native.Mathlib.Omega.{arith}
+use native.Mathlib.Numerals.{add-one}
+use borrow.Author.Tests.{le-ltb}
+use lib.Dec.{T}
+use lib.IntN.{ℤ, pos, negsuc, negℤ, natAbs, _+ℤ_, _-ℤ_, sucℤ, +ℤ-idl, +ℤ-one}
+use lib.Signed.{mag, nonNeg, quotZ, remZ, ltZ, mag-rem}
+use mir.Syntax.{w64}
+use mir.Val.{Fits, SFits, toZ, ofZ}
+use mir.Facts.{toZ-ofZ, toZ-pos, fits-natAbs, sfits-lit}
+
+-- a size that is at most one more than a bound: its opposite is within the bound
+neg-within : (r : ℕ) {a : ℕ} → r ≤ suc a → mag (negℤ (pos r)) ≤ a
+neg-within zero h = zero-le
+neg-within (suc r) h = le-of-suc-le-suc h
+
+-- a quotient is no larger than what is divided
+quotient-within : (n : ℤ) (d : ℕ) → mag (quotZ n (pos d)) ≤ mag n
+quotient-within (pos a) d = div-le-self a d
+quotient-within (negsuc a) d = neg-within (suc a / d) (div-le-self (suc a) d)
+
+quotient-fits : {n : ℤ} (d : ℕ) → SFits w64 n → SFits w64 (quotZ n (pos d))
+quotient-fits {n} d f = record { sfits = lt-of-le-of-lt (quotient-within n d) (f .sfits) }
+
+rest-fits : {n : ℤ} (d : ℕ) → SFits w64 n → SFits w64 (remZ n (pos d))
+rest-fits {n} d f = record { sfits = lt-of-le-of-lt (mag-rem n (pos d)) (f .sfits) }
+
+module _ (n : ℤ) (d : ℕ) (f : SFits w64 n) (g : SFits w64 (pos d)) where
+  pub divide-asks : SFits w64 (quotZ (toZ w64 (ofZ w64 n)) (toZ w64 d))
+  divide-asks = rw (toZ-ofZ f, toZ-pos w64 (g .sfits)) (quotient-fits d f)
+
+  pub divide-gives : toZ w64 (ofZ w64 (quotZ (toZ w64 (ofZ w64 n)) (toZ w64 d))) ≡ quotZ n (pos d)
+  divide-gives = rw (toZ-ofZ f, toZ-pos w64 (g .sfits)) (toZ-ofZ (quotient-fits d f))
+
+  pub rest-gives : toZ w64 (ofZ w64 (remZ (toZ w64 (ofZ w64 n)) (toZ w64 d))) ≡ remZ n (pos d)
+  rest-gives = rw (toZ-ofZ f, toZ-pos w64 (g .sfits)) (toZ-ofZ (rest-fits d f))
+
+module _ (n : ℤ) (f : SFits w64 n) where
+  pub negate-asks : SFits w64 (negℤ n) → SFits w64 (pos 0 -ℤ toZ w64 (ofZ w64 n))
+  negate-asks g = rw (toZ-ofZ f, +ℤ-idl) g
+
+  pub negate-gives : SFits w64 (negℤ n) → toZ w64 (ofZ w64 (pos 0 -ℤ toZ w64 (ofZ w64 n))) ≡ negℤ n
+  negate-gives g = rw (toZ-ofZ f, +ℤ-idl) (toZ-ofZ g)
+
+-- below zero
+below-zero : (n : ℤ) → ltZ n (pos 0) ≡ not (nonNeg n)
+below-zero (pos n) = le-ltb n 0 zero-le
+below-zero (negsuc n) = refl
+
+pub negative-gives : (n : ℤ) → SFits w64 n → ltZ (toZ w64 (ofZ w64 n)) (pos 0) ≡ not (nonNeg n)
+negative-gives n f = rw (toZ-ofZ f) (below-zero n)
+
+nonneg-true : (n : ℤ) → nonNeg n ≡ true → T (nonNeg n)
+nonneg-true (pos n) e = tt
+nonneg-true (negsuc n) e = subst T (sym e) tt
+
+pub natural-asks : (n : ℤ) → SFits w64 n → nonNeg n ≡ true → T (nonNeg (toZ w64 (ofZ w64 n))) × Fits w64 (natAbs (toZ w64 (ofZ w64 n)))
+natural-asks n f e = rw (toZ-ofZ f) (nonneg-true n e, fits-natAbs tt f)
+
+-- ---- the size of a negative number, by way of the number above it
+
+pub record Above (n : ℤ) : Type 0 where
+  pub fits : SFits w64 (n +ℤ pos 1)
+  pub back : SFits w64 (negℤ (n +ℤ pos 1))
+  pub natural : nonNeg (negℤ (n +ℤ pos 1)) ≡ true
+  pub size : natAbs (negℤ (n +ℤ pos 1)) + 1 ≡ natAbs n
+
+above-succ : (n : ℤ) → SFits w64 (sucℤ n) → SFits w64 (negℤ (sucℤ n)) → nonNeg (negℤ (sucℤ n)) ≡ true
+    → natAbs (negℤ (sucℤ n)) + 1 ≡ natAbs n → Above n
+above-succ n a b c d =
+    record { fits = rw +ℤ-one a; back = rw +ℤ-one b; natural = rw +ℤ-one c; size = rw +ℤ-one d }
+
+pub above : (n : ℤ) → not (nonNeg n) ≡ true → SFits w64 n → Above n
+above (pos n) e f = let z : _≡_ {A = ℕ} 0 1 = cc in absurd (omega arith)
+above (negsuc zero) e f = above-succ (negsuc zero) (sfits-lit tt) (sfits-lit tt) refl refl
+above (negsuc (suc n)) e f =
+    above-succ (negsuc (suc n)) (record { sfits = omega (arith, f .sfits) }) (record { sfits = f .sfits }) refl (add-one (suc n))

@@ -1,0 +1,73 @@
+-- Rounding away from zero by one signed division: which quotient it is, by the rest.
+-- Assumes nothing.
+use mathlib.Core.Path.{_≡_, refl, sym, ap, _∙_, subst}
+use mathlib.Core.Bool.{Bool, true, false, not}
+use Prim.Native.Nat.{ℕ, zero, suc, _+_, _*_, _/_, _%_, _<_, _≤_, _^_}
+use native.Mathlib.Nat.{mod-lt, mul-le-mul-left, suc-mul, mul-left-comm, lt-of-le-of-lt, le-of-suc-le-suc, div-lt-iff-lt-mul}
+use native.Mathlib.Omega.{arith}
+use native.Mathlib.Numerals.{add-one}
+use lib.IntN.{ℤ, pos, negsuc, negℤ, natAbs, _+ℤ_, pos-+ℤ-pos, -ℤ-one, +ℤ-one, sucℤ, predℤ}
+use lib.Signed.{nonNeg, quotZ, remZ}
+use mir.Syntax.{w64}
+use mir.Val.{SFits}
+use Rattle.weight.specs.Rounding.{halfUp, roundAway}
+use Rattle.weight.proofs.HalfStep.{half-up-stays, half-up-rises}
+
+pub size-neg : (m : ℕ) → natAbs (negℤ (pos m)) ≡ m
+size-neg zero = refl
+size-neg (suc m) = refl
+
+-- the size of the rest is the rest of the size
+pub rest-size : (x : ℤ) (n : ℕ) → natAbs (remZ x (pos n)) ≡ natAbs x % n
+rest-size (pos m) n = refl
+rest-size (negsuc m) n = size-neg (suc m % n)
+
+pub rest-below : (x : ℤ) (n : ℕ) → 0 < n → natAbs (remZ x (pos n)) < n
+rest-below x n h = rw rest-size (mod-lt (natAbs x) h)
+
+-- one further from zero
+neg-less : (m : ℕ) → predℤ (negℤ (pos m)) ≡ negℤ (pos (suc m))
+neg-less zero = refl
+neg-less (suc m) = refl
+
+pub stays : (x : ℤ) (n : ℕ) → 0 < n → natAbs (remZ x (pos n)) + natAbs (remZ x (pos n)) < n → quotZ x (pos n) ≡ roundAway x n
+unfolding roundAway
+stays (pos m) n h k = ap pos (sym (half-up-stays m n h (omega arith)))
+stays (negsuc m) n h k =
+    ap (λ (q : ℕ). negℤ (pos q)) (sym (half-up-stays (suc m) n h (omega (arith, size-neg (suc m % n)))))
+
+pub rises : (x : ℤ) (n : ℕ) → 0 < n → n ≤ natAbs (remZ x (pos n)) + natAbs (remZ x (pos n)) → not (nonNeg x) ≡ false
+    → quotZ x (pos n) +ℤ pos 1 ≡ roundAway x n
+unfolding roundAway
+rises (pos m) n h k e = ap pos (sym (half-up-rises m n h (omega arith)))
+rises (negsuc m) n h k e = let z : _≡_ {A = ℕ} 0 1 = cc in absurd (omega arith)
+
+pub falls : (x : ℤ) (n : ℕ) → 0 < n → n ≤ natAbs (remZ x (pos n)) + natAbs (remZ x (pos n)) → not (nonNeg x) ≡ true
+    → quotZ x (pos n) +ℤ negsuc 0 ≡ roundAway x n
+unfolding roundAway
+falls (pos m) n h k e = let z : _≡_ {A = ℕ} 0 1 = cc in absurd (omega arith)
+falls (negsuc m) n h k e =
+    -ℤ-one (negℤ (pos (suc m / n)))
+    ∙ neg-less (suc m / n)
+    ∙ ap (λ (q : ℕ). negℤ (pos q)) (sym (add-one (suc m / n)) ∙ sym (half-up-rises (suc m) n h (omega (arith, size-neg (suc m % n)))))
+
+-- rounding makes no number larger
+half-up-within : (m n : ℕ) → 0 < n → halfUp m n ≤ m
+unfolding halfUp
+half-up-within m n h =
+    let double : 0 < 2 * n = omega arith in
+    let grows : m * 1 ≤ m * n = mul-le-mul-left m h in
+    let below : 2 * m + n < suc m * (2 * n) = simp (suc-mul, mul-left-comm) (omega arith) in
+    le-of-suc-le-suc (div-lt-iff-lt-mul double .1 below)
+
+away-within : (x : ℤ) (n : ℕ) → 0 < n → natAbs (roundAway x n) ≤ natAbs x
+unfolding roundAway
+away-within (pos m) n h = half-up-within m n h
+away-within (negsuc m) n h = rw size-neg (half-up-within (suc m) n h)
+
+pub size-fits : (z : ℤ) → natAbs z < 2 ^ 63 → SFits w64 z
+size-fits (pos m) h = record { sfits = h }
+size-fits (negsuc m) h = record { sfits = omega arith }
+
+pub away-fits : (x : ℤ) (n : ℕ) → 0 < n → natAbs x < 2 ^ 63 → SFits w64 (roundAway x n)
+away-fits x n h k = size-fits (roundAway x n) (lt-of-le-of-lt (away-within x n h) k)

@@ -1,0 +1,63 @@
+-- A typed number whose product with its unit would leave a word is above every capacity.
+-- Assumes nothing.
+use mathlib.Core.Path.{_≡_, refl, sym, ap, _∙_}
+use mathlib.Core.Bool.{Bool, true, false, cond}
+use mathlib.Core.List.{List}
+use Prim.Native.Nat.{ℕ, suc, _+_, _*_, _^_, _≤_, _<_}
+use native.Mathlib.Nat.{mul-le-mul, mul-le-mul-right, le-trans, lt-of-le-of-lt, lt-of-not-le}
+use native.Mathlib.Omega.{arith}
+use borrow.Author.Tests.{le-leb, lt-leb}
+use lib.Dec.{leb}
+use lib.IntN.{pos}
+use lib.ListN.{length}
+use Rattle.weight.specs.declared.units.WeightUnit.{WeightUnit}
+use Rattle.weight.specs.declared.typed.Typed.{Typed}
+use Rattle.weight.specs.declared.typed.Typed.the-variants.{Amount, TooLarge, NotTyped}
+use Rattle.weight.specs.Units.{nanogramsOf}
+use Rattle.weight.specs.Rounding.{halfUp}
+use Rattle.weight.specs.Reading.{isDecimal, decimalsIn, valueIn}
+use Rattle.weight.specs.Typed.{MostPlaces, typedMicrograms, largestCapacity, amountOf, isTyped, readTyped}
+use Rattle.weight.proofs.Allowed.{power-positive}
+use Rattle.weight.proofs.HalfStep.{half-up-tie-up}
+use Rattle.weight.proofs.Range.{scale-limit}
+
+module _ (u : WeightUnit) (n v : ℕ) (most : MostPlaces u n) where
+  pub product-small : v ≤ n → v * nanogramsOf u < 2 ^ 63
+  product-small h = lt-of-le-of-lt (mul-le-mul-right (nanogramsOf u) h) (most .fits)
+
+  -- rounded down to a capacity, it would be far off
+  never-small : (d : ℕ) → d ≤ 6 → n < v → typedMicrograms u d v ≤ largestCapacity → ⊥
+  unfolding typedMicrograms
+  never-small d few h small =
+      let by : ℕ = 1000 * 10 ^ d in
+      let exact : ℕ = v * nanogramsOf u in
+      let large : suc n * nanogramsOf u ≤ exact = mul-le-mul-right (nanogramsOf u) h in
+      let positive : 0 < by = omega (arith, power-positive d) in
+      let product : by * halfUp exact by ≤ 1_000_000_000 * largestCapacity = mul-le-mul (scale-limit d few) small in
+      omega (arith, most .above, half-up-tie-up exact by positive, scale-limit d few)
+
+  pub too-large : (d : ℕ) → d ≤ 6 → n < v → largestCapacity < typedMicrograms u d v
+  too-large d few h = lt-of-not-le (never-small d few h)
+
+pub amount-large : (m : ℕ) → largestCapacity < m → TooLarge ≡ amountOf m
+unfolding amountOf
+amount-large m h = rw (lt-leb m largestCapacity h)
+
+pub amount-small : (m : ℕ) → m ≤ largestCapacity → Amount (record { 0 = pos m }) ≡ amountOf m
+unfolding amountOf
+amount-small m h = rw (le-leb m largestCapacity h)
+
+-- ---- the tests of a typed text
+
+pub typed-long : (u : WeightUnit) (t : List ℕ) → 10 < length t → NotTyped ≡ readTyped u t
+unfolding readTyped isTyped
+typed-long u t h = rw (lt-leb (length t) 10 h)
+
+module _ (u : WeightUnit) (t : List ℕ) (short : length t ≤ 10) where
+  pub typed-stray : isDecimal t ≡ false → NotTyped ≡ readTyped u t
+  unfolding readTyped isTyped
+  typed-stray e = rw (le-leb (length t) 10 short, e)
+
+  pub typed-good : isDecimal t ≡ true → amountOf (typedMicrograms u (decimalsIn t) (valueIn t)) ≡ readTyped u t
+  unfolding readTyped isTyped
+  typed-good e = rw (le-leb (length t) 10 short, e)

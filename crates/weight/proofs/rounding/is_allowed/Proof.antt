@@ -1,0 +1,24 @@
+use borrow.Author.Needs.{needs}
+use borrow.Author.Tests.{lt-leb, le-leb}
+use Rattle.weight.specs.Rounding.{allowedResolution}
+use Rattle.weight.proofs.rounding.is_allowed.Statement.{statement}
+use Rattle.weight.proofs.rounding.is_allowed.Tie as tie
+
+returns : tie.Need-returns
+unfolding allowedResolution
+returns c = simp (lt-leb (c .before .before .args .resolution .decimals) 6 (c .if1 .taken))
+
+scale-of-requires : tie.Need-scale-of-requires
+scale-of-requires c κs = search needs
+
+divisor-of-requires : tie.Need-divisor-of-requires
+divisor-of-requires c κs = search needs
+
+returns-2 : tie.Need-returns-2
+unfolding allowedResolution
+returns-2 c =
+    let decimals = c .before .before .before .before .args .resolution .decimals in
+    simp (le-leb decimals 6 (c .before .before .if1 .left), c .before .scale-of .ensures, c .divisor-of .ensures)
+
+pub is-allowed-spec : {M : Type 1} → statement M
+is-allowed-spec = tie.close (tie.spec returns scale-of-requires divisor-of-requires returns-2)

@@ -1,0 +1,69 @@
+use mathlib.Core.Path.{_≡_}
+use Prim.Native.Nat.{_*_, _^_}
+use native.Mathlib.Nat.{lt-of-le-of-lt}
+use native.Mathlib.Omega.{arith}
+use borrow.Author.Needs.{needs}
+use lib.Dec.{lit<}
+use lib.IntN.{pos, _*ℤ_}
+use Rattle.weight.specs.Rounding.{stepsOf}
+use Rattle.weight.proofs.Allowed.{allowed-decimals, allowed-divisor-positive, allowed-divisor-limit}
+use Rattle.weight.proofs.Range.{scale-limit, scaled-small, scaled-fits}
+use Rattle.weight.proofs.rounding.steps_of.Statement.{statement}
+use Rattle.weight.proofs.rounding.steps_of.Tie as tie
+
+scale-of-requires : tie.Need-scale-of-requires
+scale-of-requires c κs = allowed-decimals (c .args .resolution) (c .pre .0)
+
+of-natural-requires : tie.Need-of-natural-requires
+of-natural-requires c κs =
+    let start = c .before in
+    rw (c .scale-of .ensures)
+    (record { sfits = omega (arith, scale-limit (start .args .resolution .decimals) (allowed-decimals (start .args .resolution) (start .pre .0))) })
+
+micrograms-in-requires : tie.Need-micrograms-in-requires
+micrograms-in-requires c κs = search needs
+
+-- the product is the scaled net
+scaled-at : (c : tie.After-micrograms-in) →
+    let start = c .before .before .before in
+    c .micrograms-in .result .0 *ℤ c .before .of-natural .result .0 ≡ start .args .net .0 *ℤ pos (1000 * 10 ^ (start .args .resolution .decimals))
+scaled-at c = rw (c .micrograms-in .ensures, c .before .of-natural .ensures, c .before .before .scale-of .ensures)
+
+times-requires : tie.Need-times-requires
+times-requires c κs =
+    let start = c .before .before .before in
+    rw (scaled-at c) (scaled-fits (start .args .resolution) (start .args .net .0) (start .pre .0) (start .pre .1))
+
+divisor-of-requires : tie.Need-divisor-of-requires
+divisor-of-requires c κs = search needs
+
+nearest-requires : tie.Need-nearest-requires
+nearest-requires c κs =
+    let start = c .before .before .before .before .before in
+    let resolution = start .args .resolution in
+    let allowed = start .pre .0 in
+    rw (c .divisor-of .ensures, c .before .times .ensures, scaled-at (c .before .before)) (
+      allowed-divisor-positive resolution allowed,
+      (lt-of-le-of-lt (allowed-divisor-limit resolution allowed) (lit< tt), scaled-small resolution (start .args .net .0) allowed (start .pre .1)),
+    )
+
+display-steps-requires : tie.Need-display-steps-requires
+display-steps-requires c κs = search needs
+
+returns : tie.Need-returns
+unfolding stepsOf
+returns c =
+    rw (c .display-steps .ensures, c .before .nearest .ensures, c .before .before .divisor-of .ensures, c .before .before .before .times .ensures, scaled-at (c .before .before .before .before))
+
+pub steps-of-spec : {M : Type 1} → statement M
+steps-of-spec =
+    tie.close
+    (tie.spec
+    scale-of-requires
+    of-natural-requires
+    micrograms-in-requires
+    times-requires
+    divisor-of-requires
+    nearest-requires
+    display-steps-requires
+    returns)

@@ -1,0 +1,94 @@
+use mathlib.Core.Path.{_≡_}
+use Prim.Native.Nat.{_*_, _^_, _<_}
+use native.Mathlib.Omega.{arith}
+use borrow.Author.Needs.{needs}
+use mir.Facts.{toZ-pos}
+use mir.Syntax.{w64}
+use Rattle.weight.specs.Rounding.{roundAway}
+use Rattle.weight.specs.Typed.{typedMicrograms}
+use Rattle.weight.proofs.Allowed.{power-positive}
+use Rattle.weight.proofs.Range.{scale-limit}
+use Rattle.weight.proofs.TypedLimit.{product-small, too-large, amount-large, amount-small}
+use Rattle.weight.proofs.typed.amount.Statement.{statement}
+use Rattle.weight.proofs.typed.amount.Tie as tie
+
+most-places-requires : tie.Need-most-places-requires
+most-places-requires c κs = search needs
+
+returns : tie.Need-returns
+returns c =
+    let start = c .before .before in
+    amount-large _ (too-large (start .args .unit) (c .before .most-places .result) (start .args .value) (c .before .most-places .ensures) (start .args .decimals) (start .pre) (c .if1 .taken))
+
+nanograms-of-requires : tie.Need-nanograms-of-requires
+nanograms-of-requires c κs = search needs
+
+-- the exact product is a number that a signed word holds
+exact-at : (c : tie.After-struct-known) →
+    let start = c .before .before .before .before in
+    c .before .before .before .before .args .value * c .before .nanograms-of .result .0 < 2 ^ 63
+exact-at c =
+    let start = c .before .before .before .before in
+    rw (c .before .nanograms-of .ensures)
+    (product-small (start .args .unit) (c .before .before .before .most-places .result) (start .args .value) (c .before .before .before .most-places .ensures) (c .before .before .if1 .left))
+
+mul-of-natural : tie.Need-mul-of-natural
+mul-of-natural c = record { fits = omega (arith, exact-at c) }
+
+of-natural-requires : tie.Need-of-natural-requires
+of-natural-requires c κs = record { sfits = exact-at c }
+
+scale-of-requires : tie.Need-scale-of-requires
+scale-of-requires c κs = search needs
+
+nearest-requires : tie.Need-nearest-requires
+nearest-requires c κs =
+    let start = c .before .before .before .before .before .before in
+    rw (c .scale-of .ensures, c .before .of-natural .ensures) (
+      omega (arith, power-positive (start .args .decimals)),
+      (omega (arith, scale-limit (start .args .decimals) (start .pre)), exact-at (c .before .before)),
+    )
+
+magnitude-requires : tie.Need-magnitude-requires
+magnitude-requires c κs = search needs
+
+-- the local `rounded` is the typed number in micrograms
+rounded-at : (c : tie.After-magnitude) →
+    let start = c .before .before .before .before .before .before .before .before in
+    c .magnitude .result ≡ typedMicrograms (start .args .unit) (start .args .decimals) (start .args .value)
+unfolding roundAway typedMicrograms
+rounded-at c =
+    rw (
+      c .magnitude .ensures,
+      c .before .nearest .ensures,
+      c .before .before .scale-of .ensures,
+      c .before .before .before .of-natural .ensures,
+      c .before .before .before .before .before .nanograms-of .ensures,
+    )
+
+returns-2 : tie.Need-returns-2
+returns-2 c = rw (← (rounded-at (c .before))) (amount-large _ (c .if2 .taken))
+
+cast-t10 : tie.Need-cast-t10
+cast-t10 c = record { sfits = omega (arith, c .if2 .left) }
+
+returns-3 : tie.Need-returns-3
+returns-3 c =
+    let small : c .before .magnitude .result < 2 ^ 63 = omega (arith, c .if2 .left) in
+    rw (← (rounded-at (c .before)), toZ-pos w64 small) (amount-small _ (c .if2 .left))
+
+pub amount-spec : {M : Type 1} → statement M
+amount-spec =
+    tie.close
+    (tie.spec
+    most-places-requires
+    returns
+    nanograms-of-requires
+    mul-of-natural
+    of-natural-requires
+    scale-of-requires
+    nearest-requires
+    magnitude-requires
+    returns-2
+    cast-t10
+    returns-3)

@@ -1,0 +1,20 @@
+-- Document 01, "Weights": the printed number of a net weight, and whether it fits ten characters ("The profile").
+-- Assumes nothing.
+use mathlib.Core.Bool.{Bool, false, true, cond, _&&_}
+use lib.IntN.{ℤ, pos}
+use Rattle.weight.specs.declared.printing.Printed.{Printed}
+use Rattle.weight.specs.declared.rounding.Resolution.{Resolution}
+use Rattle.weight.specs.Rounding.{allowedResolution, inRange, placesOf}
+use Rattle.weight.specs.Field.{fitsField}
+
+-- the resolution is allowed, the net is one that a device can meet, and its number fits ten characters
+unfoldable pub printable : Resolution → ℤ → Bool
+printable r net = allowedResolution r && inRange net && fitsField (r .decimals) (placesOf r net)
+
+-- the number of last places; 0 beside `false` where there is none
+unfoldable pub printedNumber : Resolution → ℤ → Printed
+printedNumber r net =
+    record { fits = printable r net; places = record { 0 = cond (printable r net) (placesOf r net) (pos 0) } }
+
+abbrev pub unprintedNumber : Printed
+unprintedNumber = record { fits = false; places = record { 0 = pos 0 } }

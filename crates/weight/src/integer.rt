@@ -1,0 +1,81 @@
+// Signed integers, one machine operation a function, so that every caller sees plain integers.
+ghost use mathlib.Core.Path.{_≡_};
+ghost use mathlib.Core.Bool.{true, not};
+ghost use Prim.Native.Nat.{_<_, _≤_};
+ghost use lib.IntN.{pos, negsuc, natAbs, negℤ, _+ℤ_, _*ℤ_};
+ghost use lib.Signed.{nonNeg, quotZ, remZ};
+ghost use mir.Syntax.{w64};
+ghost use mir.Val.{SFits};
+
+pub struct Integer(pub i64);
+
+// The two results of one signed division, rounded towards zero.
+pub struct Divided {
+    pub quotient: Integer,
+    pub rest: Integer,
+}
+
+pub fn divide(x: Integer, by: u64) -> Divided
+    requires { ⌜ 0 < by ⌝ }
+    requires { ⌜ SFits w64 (pos by) ⌝ }
+    ensures { λ r. ⌜ r .quotient .0 ≡ quotZ (x .0) (pos by) ⌝ }
+    ensures { λ r. ⌜ r .rest .0 ≡ remZ (x .0) (pos by) ⌝ }
+{
+    let n = x.0;
+    let d = by as i64;
+    Divided {
+        quotient: Integer(n / d),
+        rest: Integer(n % d),
+    }
+}
+
+pub fn plus(x: Integer, y: Integer) -> Integer
+    requires { ⌜ SFits w64 (x .0 +ℤ y .0) ⌝ }
+    ensures { λ r. ⌜ r .0 ≡ x .0 +ℤ y .0 ⌝ }
+{
+    Integer(x.0 + y.0)
+}
+
+pub fn times(x: Integer, y: Integer) -> Integer
+    requires { ⌜ SFits w64 (x .0 *ℤ y .0) ⌝ }
+    ensures { λ r. ⌜ r .0 ≡ x .0 *ℤ y .0 ⌝ }
+{
+    Integer(x.0 * y.0)
+}
+
+pub fn of_natural(n: u64) -> Integer
+    requires { ⌜ SFits w64 (pos n) ⌝ }
+    ensures { λ r. ⌜ r .0 ≡ pos n ⌝ }
+{
+    Integer(n as i64)
+}
+
+pub fn negate(x: Integer) -> Integer
+    requires { ⌜ SFits w64 (negℤ (x .0)) ⌝ }
+    ensures { λ r. ⌜ r .0 ≡ negℤ (x .0) ⌝ }
+{
+    Integer(-x.0)
+}
+
+fn to_natural(x: Integer) -> u64
+    requires { ⌜ nonNeg (x .0) ≡ true ⌝ }
+    ensures { λ r. ⌜ r ≡ natAbs (x .0) ⌝ }
+{
+    x.0 as u64
+}
+
+pub fn is_negative(x: Integer) -> bool
+    ensures { λ r. ⌜ r ≡ not (nonNeg (x .0)) ⌝ }
+{
+    x.0 < 0
+}
+
+// The size of a number, that of the least one included.
+pub fn magnitude(x: Integer) -> u64
+    ensures { λ r. ⌜ r ≡ natAbs (x .0) ⌝ }
+{
+    if is_negative(x) {
+        return to_natural(negate(plus(x, Integer(1)))) + 1;
+    }
+    to_natural(x)
+}

@@ -1,0 +1,123 @@
+// A net weight in micrograms becomes display steps, in one rounding, and these the printed number.
+ghost use mathlib.Core.Path.{_≡_};
+ghost use mathlib.Core.Bool.{true};
+ghost use Prim.Native.Nat.{_*_, _<_, _≤_, _^_};
+ghost use Rattle.weight.specs.Units.{nanogramsOf};
+ghost use lib.IntN.{pos, natAbs, _*ℤ_};
+ghost use mir.Syntax.{w64};
+ghost use mir.Val.{SFits};
+ghost use Rattle.weight.specs.Rounding.{allowedResolution, roundAway, stepsOf, inRange};
+use crate::integer::Integer;
+use crate::integer::divide;
+use crate::integer::is_negative;
+use crate::integer::magnitude;
+use crate::integer::of_natural;
+use crate::integer::plus;
+use crate::integer::times;
+use crate::power::power_of_ten;
+use crate::units::WeightUnit;
+use crate::units::nanograms_of;
+
+// How weights are shown: the unit, the decimals and the step in the last place (document 01's d and k).
+pub struct Resolution {
+    pub unit: WeightUnit,
+    pub decimals: u8,
+    pub step: u8,
+}
+
+pub struct Micrograms(pub i64);
+
+pub struct DisplaySteps(pub i64);
+
+// A number in units of its last place: 14.2560 with four decimals is 142560.
+pub struct LastPlaces(pub i64);
+
+// x / by to the nearest whole number, a tie away from zero: one signed division with its remainder.
+pub fn nearest(x: Integer, by: u64) -> Integer
+    requires { ⌜ 0 < by ⌝ }
+    requires { ⌜ by < 2 ^ 62 ⌝ }
+    requires { ⌜ natAbs (x .0) < 2 ^ 63 ⌝ }
+    ensures { λ r. ⌜ r .0 ≡ roundAway (x .0) by ⌝ }
+{
+    let parts = divide(x, by);
+    let quotient = parts.quotient;
+    let rest = magnitude(parts.rest);
+    if by <= rest + rest {
+        if is_negative(x) {
+            return plus(quotient, Integer(-1));
+        }
+        return plus(quotient, Integer(1));
+    }
+    quotient
+}
+
+// The nanograms of a display step, times 10^d: what a rounding divides by.
+fn divisor_of(resolution: Resolution) -> u64
+    ensures { λ r. ⌜ r ≡ resolution .step * nanogramsOf (resolution .unit) ⌝ }
+{
+    let unit = resolution.unit;
+    resolution.step as u64 * nanograms_of(unit).0
+}
+
+// The nanograms of a microgram, times 10^d: what a rounding multiplies by.
+pub fn scale_of(decimals: u8) -> u64
+    requires { ⌜ decimals ≤ 6 ⌝ }
+    ensures { λ r. ⌜ r ≡ 1000 * 10 ^ decimals ⌝ }
+{
+    1000 * power_of_ten(decimals as usize)
+}
+
+// Whether decimals and step are those of document 01, and the step is at least one microgram.
+pub fn is_allowed(resolution: Resolution) -> bool
+    ensures { λ r. ⌜ r ≡ allowedResolution resolution ⌝ }
+{
+    let step = resolution.step;
+    if 6 < resolution.decimals {
+        return false;
+    }
+    let known = (step == 1) | (step == 2) | (step == 5);
+    known & (scale_of(resolution.decimals) <= divisor_of(resolution))
+}
+
+// The only conversions between the counts.
+pub fn micrograms_in(net: Micrograms) -> Integer
+    ensures { λ r. ⌜ r .0 ≡ net .0 ⌝ }
+{
+    Integer(net.0)
+}
+
+fn display_steps(count: Integer) -> DisplaySteps
+    ensures { λ r. ⌜ r .0 ≡ count .0 ⌝ }
+{
+    DisplaySteps(count.0)
+}
+
+fn steps_in(steps: DisplaySteps) -> Integer
+    ensures { λ r. ⌜ r .0 ≡ steps .0 ⌝ }
+{
+    Integer(steps.0)
+}
+
+fn last_places(count: Integer) -> LastPlaces
+    ensures { λ r. ⌜ r .0 ≡ count .0 ⌝ }
+{
+    LastPlaces(count.0)
+}
+
+// One rounding from the exact net.
+pub fn steps_of(resolution: Resolution, net: Micrograms) -> DisplaySteps
+    requires { ⌜ allowedResolution resolution ≡ true ⌝ }
+    requires { ⌜ inRange (net .0) ≡ true ⌝ }
+    ensures { λ r. ⌜ r .0 ≡ stepsOf resolution (net .0) ⌝ }
+{
+    let scale = of_natural(scale_of(resolution.decimals));
+    display_steps(nearest(times(micrograms_in(net), scale), divisor_of(resolution)))
+}
+
+pub fn places_of(resolution: Resolution, steps: DisplaySteps) -> LastPlaces
+    requires { ⌜ SFits w64 (steps .0 *ℤ pos (resolution .step)) ⌝ }
+    ensures { λ r. ⌜ r .0 ≡ steps .0 *ℤ pos (resolution .step) ⌝ }
+{
+    let step = of_natural(resolution.step as u64);
+    last_places(times(steps_in(steps), step))
+}

@@ -1,0 +1,19 @@
+// Comparing texts.
+ghost use mathlib.Core.Path.{_≡_};
+ghost use Rattle.weight.specs.Ascii.{sameText};
+
+pub fn same_text(a: &[u8], b: &[u8]) -> bool
+    ensures { λ r. ⌜ r ≡ sameText (now (a .entry)) (now (b .entry)) ⌝ }
+{
+    if a.len() != b.len() {
+        return false;
+    }
+    let mut i = 0;
+    while i < a.len() {
+        if a[i] != b[i] {
+            return false;
+        }
+        i += 1;
+    }
+    true
+}

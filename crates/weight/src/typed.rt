@@ -1,0 +1,67 @@
+// Numbers that a user types, as TA takes them.
+ghost use mathlib.Core.Path.{_≡_};
+ghost use Prim.Native.Nat.{_≤_, _<_};
+ghost use Rattle.weight.specs.Typed.{MostPlaces, typedMicrograms, amountOf, readTyped};
+use crate::integer::magnitude;
+use crate::integer::of_natural;
+use crate::reading::read_decimal;
+use crate::rounding::Micrograms;
+use crate::rounding::nearest;
+use crate::rounding::scale_of;
+use crate::units::WeightUnit;
+use crate::units::nanograms_of;
+
+// What a typed text is read as.
+pub enum Typed {
+    Amount(Micrograms),
+    // Above the largest capacity of any profile.
+    TooLarge,
+    NotTyped,
+}
+
+const LARGEST_CAPACITY: u64 = 1_000_000_000;
+
+const LONGEST_TYPED: usize = 10;
+
+// (2^63 - 1) / nanograms: no number up to it makes a product that leaves a signed word, and all above it are too large.
+fn most_places(unit: WeightUnit) -> u64
+    ensures { λ r. ⌜ MostPlaces unit r ⌝ }
+{
+    match unit {
+        WeightUnit::G => 9_223_372_036,
+        WeightUnit::Mg => 9_223_372_036_854,
+        WeightUnit::Ct => 46_116_860_184,
+        WeightUnit::Oz => 325_344_874,
+        WeightUnit::Ozt => 296_538_296,
+        WeightUnit::Gn => 142_338_382_495,
+        WeightUnit::Dwt => 5_930_765_937,
+    }
+}
+
+fn amount(unit: WeightUnit, decimals: u8, value: u64) -> Typed
+    requires { ⌜ decimals ≤ 6 ⌝ }
+    ensures { λ r. ⌜ r ≡ amountOf (typedMicrograms unit decimals value) ⌝ }
+{
+    if most_places(unit) < value {
+        return Typed::TooLarge;
+    }
+    let exact = of_natural(value * nanograms_of(unit).0);
+    let rounded = magnitude(nearest(exact, scale_of(decimals)));
+    if LARGEST_CAPACITY < rounded {
+        return Typed::TooLarge;
+    }
+    Typed::Amount(Micrograms(rounded as i64))
+}
+
+pub fn read_typed(unit: WeightUnit, text: &[u8]) -> Typed
+    ensures { λ r. ⌜ r ≡ readTyped unit (now (text .entry)) ⌝ }
+{
+    if LONGEST_TYPED < text.len() {
+        return Typed::NotTyped;
+    }
+    let number = read_decimal(text);
+    if number.good {
+        return amount(unit, number.decimals, number.value);
+    }
+    Typed::NotTyped
+}

@@ -1,0 +1,93 @@
+// Fields written and read back, and texts that are no field.
+use crate::show;
+use crate::texts;
+use crate::texts::Kind;
+use weight::FieldRead;
+use weight::LastPlaces;
+
+// The decimals and the last places.
+fn found(r: FieldRead) {
+    match r {
+        FieldRead::Number(decimals, places) => {
+            show::number(decimals as u64);
+            show::whole(places.0);
+        }
+        FieldRead::NoNumber => show::text(b" no"),
+    }
+}
+
+fn there_and_back(decimals: u8, places: i64) {
+    let f = weight::field_of(decimals, LastPlaces(places));
+    show::field(f);
+    let cells = f.cells;
+    found(weight::read_field(&cells));
+}
+
+fn written(decimals: u8, size: u64) {
+    show::text(b"written");
+    show::number(decimals as u64);
+    show::number(size);
+    there_and_back(decimals, show::above(size));
+    there_and_back(decimals, show::below(size));
+    show::end();
+}
+
+pub fn read(text: &[u8]) {
+    show::text(b"read");
+    show::quoted(text);
+    found(weight::read_field(text));
+    show::end();
+}
+
+// Either side of each place where the text gets longer, and the ends of ten characters.
+fn lengths(decimals: u8, one: u64) {
+    written(decimals, 0);
+    written(decimals, 1);
+    written(decimals, 9);
+    written(decimals, 10);
+    written(decimals, show::one_less(one));
+    written(decimals, one);
+    written(decimals, 99_999_999);
+    written(decimals, 100_000_000);
+    written(decimals, 999_999_999);
+    written(decimals, 1_000_000_000);
+}
+
+pub fn written_cases() {
+    lengths(0, 1);
+    lengths(1, 10);
+    lengths(2, 100);
+    lengths(3, 1_000);
+    lengths(4, 10_000);
+    lengths(5, 100_000);
+    lengths(6, 1_000_000);
+    lengths(7, 10_000_000);
+    written(0, 9_999_999_999);
+    written(0, 10_000_000_000);
+    written(0, 9_223_372_036_854_775_807);
+    written(0, 9_223_372_036_854_775_808);
+    written(6, 9_223_372_036_854_775_808);
+    written(4, 142_560);
+    written(4, 1_234_567_890);
+    written(255, 1);
+}
+
+fn each(list: &[u8]) {
+    texts::each(Kind::Field, list);
+}
+
+pub fn read_cases() {
+    each(b"         0|         7|        -7|9999999999|-999999999|1000000000|");
+    each(b"       0.0|       0.1|      -0.1|   14.2560|  -14.2560|  0.000001|");
+    each(b" -0.000001|999.999999|-99.999999|99999999.9|-9999999.9|");
+}
+
+// No text other than the rule's is read.
+pub fn other_cases() {
+    each(b"|          |  14.2560|    14.2560|  014.2560|        00|        01|");
+    each(b"     00.10|       -01|    -0.000|        -0|         -|         .|");
+    each(b"        -.|        1.|        .5|       -.5| 0.1234567|1.12345678|");
+    each(b"     1.2.3|     1..23|   14.256 |   14. 256|   1 4.256|  - 14.256|");
+    each(b"  --14.256|   14.-256|   14.256-|   +14.256|0000000014|     14/25|");
+    each(b"     14:25|    \t14.25|    14.25g|");
+}

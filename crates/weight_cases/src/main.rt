@@ -1,0 +1,26 @@
+// Writes one line a case: the numbers given, and what the library makes of them. tests/weight_cases.py works the same list
+// out by itself, and the two are compared.
+mod fields;
+mod nets;
+mod show;
+mod texts;
+mod ties;
+mod typed;
+mod units;
+
+fn main() {
+    units::cases();
+    nets::bench_cases();
+    nets::manual_cases();
+    nets::range_cases();
+    nets::width_cases();
+    nets::resolution_cases();
+    ties::cases();
+    typed::bench_cases();
+    typed::form_cases();
+    typed::tie_cases();
+    typed::large_cases();
+    fields::written_cases();
+    fields::read_cases();
+    fields::other_cases();
+}

@@ -1,0 +1,33 @@
+// Lists of texts for the functions that read.
+use crate::fields;
+use crate::typed;
+use crate::units;
+use weight::WeightUnit;
+
+// What the texts of a list are read as.
+pub enum Kind {
+    Unit,
+    Typed(WeightUnit),
+    Field,
+}
+
+fn one(kind: Kind, text: &[u8]) {
+    match kind {
+        Kind::Unit => units::named(text),
+        Kind::Typed(unit) => typed::typed(unit, text),
+        Kind::Field => fields::read(text),
+    }
+}
+
+// Every text of a list; each ends with a bar.
+pub fn each(kind: Kind, list: &[u8]) {
+    let mut from = 0;
+    let mut i = 0;
+    while i < list.len() {
+        if list[i] == b'|' {
+            one(kind, &list[from..i]);
+            from = i + 1;
+        }
+        i += 1;
+    }
+}

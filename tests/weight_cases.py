@@ -1,0 +1,415 @@
+#!/usr/bin/env python3
+"""The expected output of crates/weight_cases, worked out from document 01 alone.
+
+Units, rounding, the ten characters and typed numbers are written here a second time, in exact fractions and in text. This
+file shares nothing with the Rattle code but the list of cases, which each line of the output repeats.
+
+    tests/weight_cases.py            print the list
+    tests/weight_cases.py --check    compare it with crates/weight_cases/stdout; exit status 1 if they differ
+"""
+import difflib
+import math
+import pathlib
+import re
+import sys
+from fractions import Fraction
+
+EXPECTED = pathlib.Path(__file__).resolve().parent.parent / "crates" / "weight_cases" / "stdout"
+
+# ---- document 01, "The profile" and "Weights"
+
+# The line on units: text and nanograms.
+UNITS = {
+    "g": 1_000_000_000,
+    "mg": 1_000_000,
+    "ct": 200_000_000,
+    "oz": 28_349_523_125,
+    "ozt": 31_103_476_800,
+    "GN": 64_798_910,
+    "dwt": 1_555_173_840,
+}
+STEPS = (1, 2, 5)
+MOST_DECIMALS = 6
+WIDTH = 10
+BLANK = " " * WIDTH
+
+# Limits of the library, beyond those of the document: nets that are rounded, and typed micrograms that any profile can take.
+NET_LIMIT = 5_000_000_000
+LARGEST_CAPACITY = 1_000_000_000
+
+
+def allowed(unit, decimals, step):
+    return decimals <= MOST_DECIMALS and step in STEPS and step * UNITS[unit] >= 1000 * 10**decimals
+
+
+def nearest(x):
+    """The whole number nearest to x, a tie away from zero."""
+    size = math.floor(abs(x) + Fraction(1, 2))
+    return size if x >= 0 else -size
+
+
+def printed_number(unit, decimals, step, net):
+    """net x 1,000 x 10^d / unit, rounded to the nearest multiple of k."""
+    return step * nearest(Fraction(net * 1000 * 10**decimals, UNITS[unit]) / step)
+
+
+def number_text(decimals, places):
+    digits = str(abs(places)).rjust(decimals + 1, "0")
+    if decimals > 0:
+        digits = digits[:-decimals] + "." + digits[-decimals:]
+    return ("-" if places < 0 else "") + digits
+
+
+def field(decimals, places):
+    """The ten characters, or None where they are too few."""
+    text = number_text(decimals, places)
+    return text.rjust(WIDTH) if decimals <= MOST_DECIMALS and len(text) <= WIDTH else None
+
+
+def printed(unit, decimals, step, net):
+    if not allowed(unit, decimals, step) or abs(net) > NET_LIMIT:
+        return None
+    return field(decimals, printed_number(unit, decimals, step, net))
+
+
+def read_field(text):
+    """Decimals and last places, or None."""
+    form = re.fullmatch(r" *(-?)(0|[1-9][0-9]*)(?:\.([0-9]{1,6}))?", text)
+    if len(text) != WIDTH or form is None:
+        return None
+    sign, whole, decimals = form.group(1), form.group(2), form.group(3) or ""
+    places = int(sign + whole + decimals)
+    return None if sign and places == 0 else (len(decimals), places)
+
+
+def typed_micrograms(unit, text):
+    """The exact micrograms, or None."""
+    if len(text) > WIDTH or not re.fullmatch(r"[0-9]+(\.[0-9]{1,6})?", text):
+        return None
+    return Fraction(text) * UNITS[unit] / 1000
+
+
+# ---- the lines
+
+lines = []
+
+
+def in_brackets(cells):
+    return " no" if cells is None else f" [{cells}]"
+
+
+def named_resolution(unit, decimals, step):
+    word = "allowed" if allowed(unit, decimals, step) else "refused"
+    return f"{unit:3} {decimals} {step} {word}"
+
+
+def signed_pair(size):
+    """The numbers of this size, held to 64 bits."""
+    return min(size, 2**63 - 1), max(-size, -(2**63))
+
+
+def both_signs(unit, decimals, step, size):
+    return "".join(in_brackets(printed(unit, decimals, step, net)) for net in signed_pair(size))
+
+
+def net(unit, decimals, step, size):
+    lines.append(f"net {named_resolution(unit, decimals, step)} {size}{both_signs(unit, decimals, step, size)}")
+
+
+def tie(unit, decimals, step, size):
+    fields = "".join(both_signs(unit, decimals, step, near) for near in (max(size - 1, 0), size, size + 1))
+    lines.append(f"tie {named_resolution(unit, decimals, step)} {size}{fields}")
+
+
+def typed(unit, text):
+    exact = typed_micrograms(unit, text)
+    if exact is None:
+        answer = " no"
+    else:
+        amount = math.floor(exact + Fraction(1, 2))
+        answer = " too large" if amount > LARGEST_CAPACITY else in_brackets(field(0, amount))
+    lines.append(f'typed {unit:3} "{text}"{answer}')
+
+
+def found(text):
+    answer = read_field(text)
+    return " no" if answer is None else f" {answer[0]}{in_brackets(field(0, answer[1]))}"
+
+
+def written(decimals, size):
+    line = f"written {decimals} {size}"
+    for places in signed_pair(size):
+        cells = field(decimals, places)
+        line += (" no" if cells is None else "") + in_brackets(cells or BLANK) + found(cells or BLANK)
+    lines.append(line)
+
+
+def read(text):
+    lines.append(f'read "{text}"{found(text)}')
+
+
+# ---- the cases
+
+
+def unit_cases():
+    for unit, nanograms in UNITS.items():
+        lines.append(f"unit {unit:3} {len(unit)} {nanograms}")
+    for text in [*UNITS, "", "G", "gn", "kg", "g ", " g", "m", "dw", "ozt ", "oztt", "DWT", "lb"]:
+        lines.append(f'named {text if text in UNITS else "no":3} "{text}"')
+
+
+def bench_cases():
+    """Document 01, "Bench cases": the number, its unit, decimals, step and net."""
+    for text, *case in [
+        ("14.2560", "g", 4, 1, 14_256_049),
+        ("14.2561", "g", 4, 1, 14_256_050),
+        ("0.0000", "g", 4, 1, -49),
+        ("-0.0001", "g", 4, 1, -50),
+        ("0.0000", "g", 4, 5, 249),
+        ("0.0005", "g", 4, 5, 250),
+        ("0.000", "ct", 3, 1, 99),
+        ("0.001", "ct", 3, 1, 100),
+        ("1.00000", "oz", 5, 1, 28_349_523),
+        ("220.0000", "g", 4, 1, 220_000_000),
+        ("220.0000", "g", 4, 1, 220_000_001),
+        ("-1.0000", "g", 4, 1, -1_000_000),
+        ("-1.0000", "g", 4, 1, -1_000_001),
+        ("10.0001", "g", 4, 1, 10_000_050),
+        ("100.0000", "g", 4, 1, 100_000_000),
+        ("-99999.999", "mg", 3, 1, -99_999_999),
+        (None, "mg", 3, 1, -100_000_000),
+        (None, "GN", 5, 1, 64_798_910),
+        ("1000.00000", "GN", 5, 2, 64_798_910),
+    ]:
+        assert printed(*case) == (text and text.rjust(WIDTH)), case
+        net(*case[:3], abs(case[3]))
+
+
+# The weights in grams that sources 003 and 000 print in commands and answers, each once.
+MANUAL = """4875.2
+    0.00 1.23 5.25 10.00 12.34 15.00 20.00 67.89 100.00 100.12 114.87 115.23 117.57 129.07 129.08 129.09 200.00 200.01 2000.00
+    0.256 14.256 100.000 100.123 123.456 70.0000 200.1234"""
+
+
+def manual_cases():
+    for text in MANUAL.split():
+        decimals, micrograms = len(text.partition(".")[2]), Fraction(text) * 1_000_000
+        assert printed("g", decimals, 1, int(micrograms)) == text.rjust(WIDTH), text
+        net("g", decimals, 1, int(micrograms))
+
+
+def range_cases():
+    for size in (0, 1, 10**9, 2**31 - 1, 2**31, 2**31 + 2 * 10**9, NET_LIMIT - 1, NET_LIMIT, NET_LIMIT + 1, 2**63 - 1, 2**63):
+        net("g", 4, 1, size)
+    for size in (0, 1):
+        net("g", 6, 1, size)
+    for resolution in (("mg", 0, 1), ("ct", 4, 1), ("oz", 6, 1), ("ozt", 0, 5), ("GN", 4, 1), ("dwt", 4, 2)):
+        net(*resolution, NET_LIMIT)
+        net(*resolution, NET_LIMIT + 1)
+
+
+def last_that_fits(unit, decimals, step, sign):
+    """The largest size whose field fits, by halving; the width only grows with the size."""
+    low, high = 0, NET_LIMIT
+    assert printed(unit, decimals, step, sign * high) is None
+    while high - low > 1:
+        middle = (low + high) // 2
+        if printed(unit, decimals, step, sign * middle) is None:
+            high = middle
+        else:
+            low = middle
+    return low
+
+
+def width_cases():
+    for unit, decimals, step, signs in [
+        ("g", 6, 1, (1, -1)),
+        ("mg", 3, 1, (1, -1)),
+        ("mg", 2, 1, (-1,)),
+        ("ct", 6, 5, (1, -1)),
+        ("ct", 5, 1, (1, -1)),
+        ("ct", 4, 2, (-1,)),
+        ("oz", 6, 1, (-1,)),
+        ("ozt", 6, 1, (-1,)),
+        ("GN", 5, 2, (1, -1)),
+        ("GN", 4, 1, (-1,)),
+        ("dwt", 6, 1, (1, -1)),
+        ("dwt", 5, 5, (-1,)),
+    ]:
+        for sign in signs:
+            last = last_that_fits(unit, decimals, step, sign)
+            net(unit, decimals, step, last)
+            net(unit, decimals, step, last + 1)
+
+
+def resolution_cases():
+    for decimals in (6, 7, 255):
+        net("g", decimals, 1, 1_000_000)
+    for step in (0, 3, 4, 6, 10, 255):
+        net("g", 4, step, 1_000_000)
+    for unit, decimals, step in [
+        ("mg", 3, 1),
+        ("mg", 4, 5),
+        ("ct", 6, 2),
+        ("ct", 6, 5),
+        ("oz", 7, 5),
+        ("ozt", 7, 5),
+        ("GN", 5, 1),
+        ("GN", 5, 2),
+    ]:
+        net(unit, decimals, step, 1_000_000)
+
+
+def tie_cases():
+    tied = set()
+    for unit in UNITS:
+        for step in STEPS:
+            for decimals in range(MOST_DECIMALS + 1):
+                for halves in (1, 25):
+                    middle = Fraction(halves * step * UNITS[unit], 2 * 1000 * 10**decimals)
+                    tie(unit, decimals, step, math.floor(middle))
+                    if middle.denominator == 1 and allowed(unit, decimals, step):
+                        tied.add((unit, step))
+    # An odd number of half steps of oz and GN is never whole: k x unit has too few factors of two.
+    assert tied == {(unit, step) for unit in UNITS for step in STEPS if unit not in ("oz", "GN")}
+
+
+def typed_cases():
+    for text in ("100.00", "-1", "220.000001", "1."):
+        typed("g", text)
+    for text in """|5|50|5.0|50.0|50.00|50.000|50.0000|50.00000|50.000000|050.000000|0050.000000|0|000.000001|0.123456|0.1234567
+            |.5|.|5..0|5.0.0|5.0.|.5.0|+5| 5|5 |5 0|5,0|5/0|5:0|5e1|5.-1|five""".replace("\n" + " " * 12, "").split("|"):
+        typed("g", text)
+
+
+def typed_tie_cases():
+    for unit, texts in [
+        ("mg", "0.000499 0.0005! 0.000501 0.002499 0.0025! 123.4565!"),
+        ("oz", "3.999999 4! 4.000001 12!"),
+        ("ozt", "0.312499 0.3125! 0.312501"),
+        ("GN", "49.999999 50! 50.000001 150.000000!"),
+        ("dwt", "6.249999 6.25! 6.250001 18.75!"),
+        ("g", "0.000001"),
+        ("ct", "0.000001 0.000002 0.000003"),
+    ]:
+        for text in texts.split():
+            exact = typed_micrograms(unit, text.rstrip("!"))
+            assert (exact % 1 == Fraction(1, 2)) == text.endswith("!"), (unit, text)
+            typed(unit, text.rstrip("!"))
+
+
+def largest_typed(unit):
+    """The largest text of ten characters that is not too large, and the next one."""
+    whole = str(LARGEST_CAPACITY * 1000 // UNITS[unit])
+    decimals = min(MOST_DECIMALS, WIDTH - 1 - len(whole))
+    places = (2 * LARGEST_CAPACITY + 1) * 1000 * 10**decimals // (2 * UNITS[unit]) + 2
+    while typed_micrograms(unit, number_text(decimals, places)) >= LARGEST_CAPACITY + Fraction(1, 2):
+        places -= 1
+    return [number_text(decimals, places), number_text(decimals, places + 1)]
+
+
+def typed_large_cases():
+    for unit in UNITS:
+        for text in [*largest_typed(unit), "999.999999", "9999999999"]:
+            typed(unit, text)
+
+
+def written_cases():
+    for decimals in range(MOST_DECIMALS + 2):
+        one = 10**decimals
+        for size in (0, 1, 9, 10, one - 1, one, 10**8 - 1, 10**8, 10**9 - 1, 10**9):
+            written(decimals, size)
+    for decimals, size in [
+        (0, 10**10 - 1),
+        (0, 10**10),
+        (0, 2**63 - 1),
+        (0, 2**63),
+        (6, 2**63),
+        (4, 142_560),
+        (4, 1_234_567_890),
+        (255, 1),
+    ]:
+        written(decimals, size)
+
+
+def read_cases():
+    for text in """0 7 -7 9999999999 -999999999 1000000000 0.0 0.1 -0.1 14.2560 -14.2560 0.000001 -0.000001 999.999999 -99.999999
+            99999999.9 -9999999.9""".split():
+        assert read_field(text.rjust(WIDTH)) is not None, text
+        read(text.rjust(WIDTH))
+
+
+def other_cases():
+    for text in [
+        "",
+        "          ",
+        "  14.2560",
+        "    14.2560",
+        "  014.2560",
+        "        00",
+        "        01",
+        "     00.10",
+        "       -01",
+        "    -0.000",
+        "        -0",
+        "         -",
+        "         .",
+        "        -.",
+        "        1.",
+        "        .5",
+        "       -.5",
+        " 0.1234567",
+        "1.12345678",
+        "     1.2.3",
+        "     1..23",
+        "   14.256 ",
+        "   14. 256",
+        "   1 4.256",
+        "  - 14.256",
+        "  --14.256",
+        "   14.-256",
+        "   14.256-",
+        "   +14.256",
+        "0000000014",
+        "     14/25",
+        "     14:25",
+        "    \t14.25",
+        "    14.25g",
+    ]:
+        assert read_field(text) is None, text
+        read(text)
+
+
+def expected():
+    unit_cases()
+    bench_cases()
+    manual_cases()
+    range_cases()
+    width_cases()
+    resolution_cases()
+    tie_cases()
+    typed_cases()
+    typed_tie_cases()
+    typed_large_cases()
+    written_cases()
+    read_cases()
+    other_cases()
+    return "".join(line + "\n" for line in lines)
+
+
+def check():
+    want, have = expected(), EXPECTED.read_text("latin-1")
+    for line in difflib.unified_diff(have.splitlines(), want.splitlines(), str(EXPECTED), "tests/weight_cases.py", lineterm="", n=0):
+        print(line)
+    if have != want:
+        sys.exit("weight_cases: crates/weight_cases/stdout is not what document 01 gives")
+    print(f"ok: the {len(lines)} lines of crates/weight_cases/stdout are what document 01 gives")
+
+
+if __name__ == "__main__":
+    if sys.argv[1:] == ["--check"]:
+        check()
+    elif not sys.argv[1:]:
+        sys.stdout.buffer.write(expected().encode("latin-1"))
+    else:
+        sys.exit(__doc__)

@@ -1,0 +1,129 @@
+//! Two programs on the same input: the first difference, and the shortest input that shows it.
+
+use crate::profile::Profile;
+use crate::replay::Event;
+use crate::tally::Tally;
+
+/// The lines of a script without their LF, or the pieces of a capture.
+pub type Script = Vec<Vec<u8>>;
+/// From input bytes to output bytes.
+pub type Program<'a> = &'a dyn Fn(&[u8]) -> Vec<u8>;
+/// From lines or pieces to input bytes.
+pub type Joined = fn(&[Vec<u8>]) -> Vec<u8>;
+
+pub fn script_bytes(lines: &[Vec<u8>]) -> Vec<u8> {
+    lines.iter().flat_map(|line| line.iter().chain(b"\n")).copied().collect()
+}
+
+pub fn capture_bytes(pieces: &[Vec<u8>]) -> Vec<u8> {
+    pieces.concat()
+}
+
+/// The first of the scripts that the programs print something else for; all of them if only all together show it.
+pub fn first_differing(scripts: &[Script], joined: Joined, one: Program, other: Program) -> Option<Script> {
+    let differs = |lines: &[Vec<u8>]| differ(&joined(lines), one, other);
+    let all = scripts.concat();
+    if !differs(&all) {
+        return None;
+    }
+    Some(scripts.iter().find(|script| differs(script)).unwrap_or(&all).clone())
+}
+
+fn differ(input: &[u8], one: Program, other: Program) -> bool {
+    one(input) != other(input)
+}
+
+/// None if both programs print the same for all scripts together; else the shortest script that tells them apart.
+pub fn difference(scripts: &[Script], joined: Joined, one: Program, other: Program) -> Option<Script> {
+    let script = first_differing(scripts, joined, one, other)?;
+    Some(shortest(&script, &mut |lines| differ(&joined(lines), one, other)))
+}
+
+/// Leaves out lines, then bytes of each line, again and again as long as the programs still differ.
+pub fn shortest(script: &[Vec<u8>], differs: &mut dyn FnMut(&[Vec<u8>]) -> bool) -> Script {
+    let mut lines = script.to_vec();
+    loop {
+        let before = lines.concat().len() + lines.len();
+        lines = thinned(&lines, differs);
+        for at in 0..lines.len() {
+            let mut with = lines.clone();
+            lines[at] = thinned(&lines[at], &mut |bytes| {
+                with[at] = bytes.to_vec();
+                differs(&with)
+            });
+        }
+        if lines.concat().len() + lines.len() == before {
+            return lines;
+        }
+    }
+}
+
+/// Leaves out runs of items, long ones first, until none can be left out.
+fn thinned<T: Clone>(items: &[T], differs: &mut dyn FnMut(&[T]) -> bool) -> Vec<T> {
+    let mut items = items.to_vec();
+    loop {
+        let before = items.len();
+        let mut run = items.len();
+        while run > 0 {
+            items = without_runs(items, run, differs);
+            run = if run > SHORT_RUN { run / 2 } else { run - 1 };
+        }
+        if items.len() == before {
+            return items;
+        }
+    }
+}
+
+/// Runs up to this long are tried at every place: a byte of a `b` line is three characters.
+const SHORT_RUN: usize = 6;
+
+fn without_runs<T: Clone>(mut items: Vec<T>, run: usize, differs: &mut dyn FnMut(&[T]) -> bool) -> Vec<T> {
+    let stride = if run > SHORT_RUN { run } else { 1 };
+    let mut at = 0;
+    while at < items.len() {
+        let end = (at + run).min(items.len());
+        let fewer = [&items[..at], &items[end..]].concat();
+        if differs(&fewer) {
+            items = fewer;
+        } else {
+            at += stride;
+        }
+    }
+    items
+}
+
+/// Has the tally judge each history: from a granted power-on as long as the profile stays.
+#[derive(Default)]
+pub struct Judge {
+    tally: Option<(Profile, Tally)>,
+    pub calls: usize,
+    pub refusals: [usize; 4],
+    pub weights: usize,
+    pub faults: Vec<String>,
+}
+
+impl Judge {
+    pub fn see(&mut self, event: &Event) {
+        self.calls += 1;
+        self.refusals[usize::from(event.refusal)] += 1;
+        let Some(call) = event.call else {
+            if event.refusal == 0 {
+                self.tally = Some((event.profile.clone(), Tally::new(event.profile)));
+            }
+            return;
+        };
+        if self.tally.as_ref().is_some_and(|(profile, _)| profile != event.profile) && event.refusal == 0 {
+            self.tally = None;
+        }
+        let Some((_, tally)) = self.tally.as_mut() else { return };
+        self.weights += usize::from(event.answer.len() > 17 && event.answer[0] != b'I');
+        if let Err(fault) = tally.take(call, event.refusal, event.answer) {
+            self.faults.push(fault);
+        }
+    }
+}
+
+/// Bytes as a reader can see them.
+pub fn shown(bytes: &[u8]) -> String {
+    bytes.escape_ascii().to_string().replace("\\n", "\\n\n")
+}

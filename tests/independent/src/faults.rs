@@ -1,0 +1,49 @@
+//! Small faults that can be switched on, one at a time. The comparison has to notice each; nothing else uses them.
+
+macro_rules! faults {
+    ($list:ident: $($name:ident,)*; $readers:ident: $($reader:ident,)*) => {
+        #[derive(Clone, Copy, Debug, PartialEq, Eq)]
+        pub enum Fault { $($name,)* $($reader,)* }
+        /// Faults of the module and its replay.
+        pub const $list: &[Fault] = &[$(Fault::$name),*];
+        /// Faults of the reader of answer lines.
+        pub const $readers: &[Fault] = &[$(Fault::$reader),*];
+    };
+}
+
+faults! {
+    OF_THE_MODULE:
+    // weights
+    TieTowardsZero, TieToEven, RoundedTowardsZero, RoundedTwice, StepIgnored, MinusZeroPrinted, LeftAligned,
+    OunceCutShort, GrainCutShort, TroyOunceCutShort, PennyweightCutShort,
+    // typed tares
+    TypedTieDownwards, TypedAboveCapacityTaken, TypedSevenDecimals, TypedElevenCharacters, TypedBarePoint, TypedUnitIgnored,
+    TypedTwoSpaces, TypedRoundedToStep,
+    // the profile
+    MarginUnchecked, ZeroingRangeUnchecked, PatienceOfThousandOne, PatienceOfZero, CapacityOverLimit, CapacityOfZero,
+    StepOfThree, SevenDecimals, StepBelowMicrogram, OnlyCapacityFits, NoNetNeedsToFit, QuoteInText, ControlInText,
+    // receiving
+    Line63, Line65, FaultPastLimitForgotten, FaultForgotten, FaultyCrTaken, FaultyLfTaken, CrAloneEndsLine, LfAloneEndsLine,
+    CrLost, SyntaxBeforeTransmission, ControlTaken, PrefixTaken, LowerCaseTaken, AnythingAfterName, WaitingBeforeSyntax,
+    WaitingBeforeLogical, WaitingBeforeReset, ParametersBeforeWaiting, OwnIdentification, LineKeptAfterRefusal,
+    // waiting
+    TimeoutEarly, TimeoutLate, LatestCounted, UnstableJudged, TareStoredAtCommand, TareKeptAfterTimeout, ZeroKeptAfterTimeout,
+    // repetition
+    RepeatedThroughS, RepeatedThroughSi, RepetitionEndedWhileWaiting, RepetitionEndedByT, OverloadStartsNone,
+    StartedWithoutSample, RepeatedWhileWaiting,
+    // weighing, zeroing, taring
+    FirstSampleKept, CapacityOffByOne, MarginOffByOne, CapacityByNet, ZeroRangeOffByOne, LowerZeroRangeOffByOne, ZeroRangeByGross,
+    ZeroingKeepsTare, ZeroingByGross, TareBelowZeroTaken, TareAboveCapacityTaken, TareByNet, PrintedTareSubtracted,
+    TareAnswersNet, QueryClearsTare,
+    // reset and the rest
+    ResetKeepsTare, ResetKeepsWaiting, ResetKeepsRepetition, ResetForgetsSample, ResetClearsZero, ResetUnanswered,
+    TextOf21Shown, QuoteShown, LastListedB, LevelOneComplete, TextsSwapped,
+    // refusals
+    RefusalTwoFirst, RefusalThreeFirst, RoomOffByOne, ShortRoomTakes, ZeroUnjudged, TareUnjudged, CountUnjudged,
+    RefusedOnForgetsState,
+    ;
+    OF_THE_READER:
+    ReadLeadingZero, ReadMinusZero, ReadSevenDecimals, ReadBarePoint, ReadNegativeTare, ReadLeftAligned, ReadShortField,
+    ReadOtherUnit, ReadLongText, ReadQuote, ReadControl, ReadSiBusy, ReadResetBusy, ReadOtherLevel, ReadBareZeroing, ReadTrailing,
+    ReadLfAlone, ReadUnfinished, ReadWrongSign, ReadAnyVersion, ReadLowerCase,
+}

@@ -1,0 +1,15 @@
+//! Document 01 written a second time, from the paper, by plain arithmetic and strings. It shares no table and no code with the
+//! proved module, which it is compared with.
+
+pub mod cases;
+pub mod compare;
+pub mod decode;
+pub mod faults;
+pub mod module;
+pub mod profile;
+pub mod random;
+pub mod reader;
+pub mod replay;
+pub mod sweeps;
+pub mod tally;
+pub mod weight;

@@ -1,0 +1,84 @@
+//! The profile, and when it is refused.
+
+use crate::faults::Fault;
+use crate::weight::{printed, ten_to, Scale, Unit};
+
+#[derive(Clone, Debug, PartialEq, Eq)]
+pub struct Profile {
+    pub capacity: u32,
+    pub margin: u32,
+    pub zeroing: u32,
+    pub patience: u32,
+    pub scale: Scale,
+    /// The texts of I2, I3, I4 and I5.
+    pub texts: [Vec<u8>; 4],
+}
+
+impl Profile {
+    /// Profile A of the bench cases.
+    pub fn a() -> Profile {
+        Profile {
+            capacity: 220_000_000,
+            margin: 1_000_000,
+            zeroing: 4_400_000,
+            patience: 3,
+            scale: Scale { unit: Unit::Gram, decimals: 4, step: 1 },
+            texts: [vec![], vec![], b"VA-0001".to_vec(), vec![]],
+        }
+    }
+
+    pub fn is_refused(&self, fault: Option<Fault>) -> bool {
+        !(self.ranges_hold(fault) && self.scale_holds(fault) && self.every_net_fits(fault) && self.texts_hold(fault))
+    }
+
+    fn ranges_hold(&self, fault: Option<Fault>) -> bool {
+        let has = |one| fault == Some(one);
+        let least = if has(Fault::CapacityOfZero) { 0 } else { 1 };
+        let most = if has(Fault::CapacityOverLimit) { 1_000_000_001 } else { 1_000_000_000 };
+        let shortest = if has(Fault::PatienceOfZero) { 0 } else { 1 };
+        let longest = if has(Fault::PatienceOfThousandOne) { 1_001 } else { 1_000 };
+        (least..=most).contains(&self.capacity)
+            && (self.margin <= self.capacity || has(Fault::MarginUnchecked))
+            && (self.zeroing <= self.capacity || has(Fault::ZeroingRangeUnchecked))
+            && (shortest..=longest).contains(&self.patience)
+    }
+
+    fn scale_holds(&self, fault: Option<Fault>) -> bool {
+        let Scale { unit, decimals, step } = self.scale;
+        let most = if fault == Some(Fault::SevenDecimals) { 7 } else { 6 };
+        let three = step == 3 && fault == Some(Fault::StepOfThree);
+        decimals <= most
+            && (matches!(step, 1 | 2 | 5) || three)
+            && (step_is_a_microgram(unit, decimals, step) || fault == Some(Fault::StepBelowMicrogram))
+    }
+
+    /// The longest texts stand at the ends of the range.
+    fn every_net_fits(&self, fault: Option<Fault>) -> bool {
+        let capacity = i128::from(self.capacity);
+        let lowest = -(i128::from(self.margin) + capacity);
+        let fits = |net| printed(net, self.scale, fault).len() <= 10;
+        match fault {
+            Some(Fault::NoNetNeedsToFit) => true,
+            Some(Fault::OnlyCapacityFits) => fits(capacity),
+            _ => fits(capacity) && fits(lowest),
+        }
+    }
+
+    fn texts_hold(&self, fault: Option<Fault>) -> bool {
+        self.texts.iter().zip(TEXT_ROOMS).all(|(text, room)| is_text(text, room, fault))
+    }
+}
+
+/// The most characters of the texts for I2, I3, I4 and I5.
+pub const TEXT_ROOMS: [usize; 4] = [40, 40, 20, 20];
+
+fn step_is_a_microgram(unit: Unit, decimals: u8, step: u8) -> bool {
+    i128::from(step) * unit.nanograms() >= 1000 * ten_to(decimals.into())
+}
+
+/// At most so many bytes from 32 to 255 without the quote.
+pub fn is_text(text: &[u8], room: usize, fault: Option<Fault>) -> bool {
+    let least = if fault == Some(Fault::ControlInText) { 31 } else { 32 };
+    let quote = fault == Some(Fault::QuoteInText);
+    text.len() <= room && text.iter().all(|&byte| byte >= least && (byte != b'"' || quote))
+}

@@ -1,0 +1,817 @@
+//! Random scripts for replay and random captures for decode, all from a seed. While a script is made it is also run on the good
+//! module, so that loads and numbers can be aimed at the edges of the zero, tare and count in force.
+
+use crate::compare::Script;
+use crate::module::{Module, State, COMMANDS};
+use crate::profile::{Profile, TEXT_ROOMS};
+use crate::replay::Replay;
+use crate::weight::{number_text, ten_to, Scale, Unit, UNITS};
+
+/// A small generator of numbers (splitmix64).
+pub struct Rng(u64);
+
+impl Rng {
+    pub fn new(seed: u64) -> Rng {
+        Rng(seed)
+    }
+
+    fn next(&mut self) -> u64 {
+        self.0 = self.0.wrapping_add(0x9e37_79b9_7f4a_7c15);
+        let mut z = self.0;
+        z = (z ^ (z >> 30)).wrapping_mul(0xbf58_476d_1ce4_e5b9);
+        z = (z ^ (z >> 27)).wrapping_mul(0x94d0_49bb_1331_11eb);
+        z ^ (z >> 31)
+    }
+
+    pub fn below(&mut self, n: usize) -> usize {
+        (self.next() % n as u64) as usize
+    }
+
+    fn chance(&mut self, percent: usize) -> bool {
+        self.below(100) < percent
+    }
+
+    fn between(&mut self, low: i128, high: i128) -> i128 {
+        low + i128::from(self.next()).rem_euclid((high - low + 1).max(1))
+    }
+
+    fn pick<T: Copy>(&mut self, from: &[T]) -> T {
+        from[self.below(from.len())]
+    }
+}
+
+/// One x with x * a / b halfway between two whole numbers, and the distance to the next such x.
+fn tie(a: i128, b: i128) -> Option<(i128, i128)> {
+    let (g, inverse) = gcd_and_inverse(2 * a, 2 * b);
+    let every = 2 * b / g;
+    (b % g == 0).then(|| ((b / g * inverse).rem_euclid(every), every))
+}
+
+/// g = gcd(a, b) and the inverse of a / g modulo b / g.
+fn gcd_and_inverse(a: i128, b: i128) -> (i128, i128) {
+    let (mut r, mut s) = ((a, b), (1, 0));
+    while r.1 != 0 {
+        let q = r.0 / r.1;
+        r = (r.1, r.0 - q * r.1);
+        s = (s.1, s.0 - q * s.1);
+    }
+    (r.0, s.0.rem_euclid(b / r.0))
+}
+
+/// A number from low to high halfway between two roundings, if there is one.
+fn some_tie(rng: &mut Rng, a: i128, b: i128, low: i128, high: i128) -> Option<i128> {
+    let (first, every) = tie(a, b)?;
+    let lowest = low + (first - low).rem_euclid(every);
+    (lowest <= high).then(|| lowest + every * rng.between(0, (high - lowest) / every))
+}
+
+// Profiles.
+
+fn any_scale(rng: &mut Rng) -> Scale {
+    Scale { unit: rng.pick(&UNITS), decimals: rng.below(7) as u8, step: rng.pick(&[1, 1, 2, 5]) }
+}
+
+fn any_capacity(rng: &mut Rng) -> u32 {
+    let round = [1, 2, 9, 999, 10_000, 1_000_000, 99_999_999, 100_000_000, 220_000_000, 999_999_999, 1_000_000_000];
+    if rng.chance(50) {
+        rng.pick(&round)
+    } else {
+        rng.between(1, 1_000_000_000) as u32
+    }
+}
+
+fn part_of(rng: &mut Rng, capacity: u32) -> u32 {
+    match rng.below(6) {
+        0 => 0,
+        1 => 1.min(capacity),
+        2 => capacity,
+        3 => capacity - 1,
+        _ => rng.between(0, capacity.into()) as u32,
+    }
+}
+
+fn any_patience(rng: &mut Rng) -> u32 {
+    if rng.chance(90) {
+        rng.between(1, 5) as u32
+    } else {
+        rng.pick(&[6, 17, 999, 1_000])
+    }
+}
+
+fn text_of(rng: &mut Rng, room: usize) -> Vec<u8> {
+    let length = if rng.chance(50) { rng.pick(&[0, 1, room - 1, room]) } else { rng.below(room + 1) };
+    (0..length).map(|_| text_byte(rng)).collect()
+}
+
+fn text_byte(rng: &mut Rng) -> u8 {
+    let byte = if rng.chance(70) { rng.between(32, 126) } else { rng.between(32, 255) } as u8;
+    if byte == b'"' {
+        b'!'
+    } else {
+        byte
+    }
+}
+
+fn texts(rng: &mut Rng) -> [Vec<u8>; 4] {
+    TEXT_ROOMS.map(|room| text_of(rng, room))
+}
+
+fn good_profile(rng: &mut Rng) -> Profile {
+    loop {
+        let capacity = any_capacity(rng);
+        let (margin, zeroing) = (part_of(rng, capacity), part_of(rng, capacity));
+        let profile =
+            Profile { capacity, margin, zeroing, patience: any_patience(rng), scale: any_scale(rng), texts: texts(rng) };
+        let profile = if rng.chance(25) { widest(rng, profile) } else { profile };
+        if !profile.is_refused(None) {
+            return profile;
+        }
+    }
+}
+
+/// The largest capacity or margin that still fits its ten characters.
+fn widest(rng: &mut Rng, mut profile: Profile) -> Profile {
+    if rng.chance(50) {
+        profile.margin = 0;
+        profile.zeroing = 0;
+        profile.capacity = largest(1_000_000_000, |capacity| !Profile { capacity, ..profile.clone() }.is_refused(None));
+        profile.zeroing = part_of(rng, profile.capacity.max(1));
+    } else {
+        profile.margin = largest(profile.capacity, |margin| !Profile { margin, ..profile.clone() }.is_refused(None));
+    }
+    profile
+}
+
+/// The largest number up to a limit that passes, if passing ends somewhere.
+pub fn largest(limit: u32, passes: impl Fn(u32) -> bool) -> u32 {
+    let (mut low, mut high) = (0, limit);
+    while low < high {
+        let middle = low + (high - low).div_ceil(2);
+        if passes(middle) {
+            low = middle;
+        } else {
+            high = middle - 1;
+        }
+    }
+    low
+}
+
+/// A profile with one line broken, as a rule by the least that breaks it.
+fn bad_profile(rng: &mut Rng, good: &Profile) -> Profile {
+    let roomy = Scale { unit: Unit::Gram, decimals: 2, step: 1 };
+    let mut bad = Profile { scale: if rng.chance(60) { roomy } else { good.scale }, ..good.clone() };
+    match rng.below(14) {
+        0 => (bad.capacity, bad.margin, bad.zeroing) = (0, 0, 0),
+        1 => bad.capacity = rng.pick(&[1_000_000_001, u32::MAX]),
+        2 => bad.margin = rng.pick(&[bad.capacity + 1, u32::MAX]),
+        3 => bad.zeroing = rng.pick(&[bad.capacity + 1, u32::MAX]),
+        4 => bad.patience = 0,
+        5 => bad.patience = rng.pick(&[1_001, 1_001, u32::MAX]),
+        6 => bad.scale.step = rng.pick(&[3, 3, 0, 4, 6, 10, 255]),
+        7 => bad.scale.decimals = rng.pick(&[7, 8, 255]),
+        8 => {
+            (bad.capacity, bad.margin, bad.zeroing, bad.scale) = (1_000, 9, 9, Scale { unit: Unit::Ounce, decimals: 7, step: 1 })
+        }
+        9 => {
+            (bad.capacity, bad.margin, bad.zeroing) = (1_000, 9, 9);
+            let (unit, decimals) = rng.pick(&[(Unit::Grain, 5), (Unit::Milligram, 4), (Unit::Carat, 6), (Unit::Milligram, 6)]);
+            bad.scale = Scale { unit, decimals, step: 1 };
+        }
+        10 => {
+            bad.scale = good.scale;
+            bad.margin = largest(bad.capacity, |margin| !Profile { margin, ..bad.clone() }.is_refused(None)) + 1;
+        }
+        11 => {
+            bad = Profile { margin: 0, zeroing: 0, scale: good.scale, ..bad };
+            bad.capacity = largest(1_000_000_000, |capacity| !Profile { capacity, ..bad.clone() }.is_refused(None)) + 1;
+        }
+        at => {
+            let text = &mut bad.texts[rng.below(4)];
+            text.pop();
+            let byte = if at == 12 { b'"' } else { rng.pick(&[31, 31, 0, 9, 13]) };
+            text.insert(rng.below(text.len() + 1), byte);
+        }
+    }
+    bad
+}
+
+pub fn profile_line(profile: &Profile) -> Vec<u8> {
+    let Profile { capacity, margin, zeroing, patience, scale, .. } = profile;
+    let Scale { unit, decimals, step } = scale;
+    format!("profile {capacity} {margin} {zeroing} {patience} {} {decimals} {step}", unit.name()).into_bytes()
+}
+
+fn whole_part(number: &str) -> &str {
+    number.split('.').next().unwrap_or(number)
+}
+
+fn text_line(at: usize, text: &[u8]) -> Vec<u8> {
+    [format!("text {} ", at + 2).as_bytes(), text].concat()
+}
+
+// Scripts.
+
+/// A script that starts anew: profile, texts, room, power-on.
+pub fn script(rng: &mut Rng) -> Script {
+    let mut maker = Maker { replay: Replay::new(Module::default()), lines: vec![], rng };
+    maker.start();
+    for _ in 0..maker.rng.between(8, 45) {
+        maker.step();
+    }
+    maker.lines
+}
+
+struct Maker<'r> {
+    rng: &'r mut Rng,
+    replay: Replay,
+    lines: Script,
+}
+
+impl Maker<'_> {
+    fn add(&mut self, line: Vec<u8>) {
+        self.replay.line(&line, &mut vec![], &mut |_| {});
+        self.lines.push(line);
+    }
+
+    fn say(&mut self, text: &str) {
+        self.add(text.as_bytes().to_vec());
+    }
+
+    fn start(&mut self) {
+        let good = good_profile(self.rng);
+        self.say("room 256");
+        if self.rng.chance(20) {
+            let bad = bad_profile(self.rng, &good);
+            self.set_profile(&bad, true);
+            self.say("on");
+            if self.rng.chance(50) {
+                self.command();
+                self.sample();
+            }
+        }
+        self.set_profile(&good, true);
+        self.say("on");
+        if self.rng.chance(80) {
+            self.sample();
+        }
+    }
+
+    fn set_profile(&mut self, profile: &Profile, with_texts: bool) {
+        self.add(profile_line(profile));
+        if with_texts {
+            for (at, text) in profile.texts.iter().enumerate() {
+                self.add(text_line(at, text));
+            }
+        }
+    }
+
+    fn step(&mut self) {
+        match self.rng.below(100) {
+            0..=32 => self.sample(),
+            33..=62 => self.command(),
+            63..=75 => self.odd_line(),
+            76..=82 => self.raw_line(),
+            83..=85 => self.short_room(),
+            86..=88 => self.other_profile(),
+            89 => self.new_text(),
+            90 => self.odd_script_line(),
+            91 => self.say("on"),
+            92..=95 => self.wait(),
+            96..=97 => self.repeat(),
+            _ => self.tare_and_weigh(),
+        }
+    }
+
+    fn state(&self) -> State {
+        self.replay.state.clone().unwrap_or_default()
+    }
+
+    // Samples.
+
+    fn sample(&mut self) {
+        let stable = self.rng.chance(55);
+        self.sample_of(stable);
+    }
+
+    fn sample_of(&mut self, stable: bool) {
+        let load = self.load();
+        self.put(load, stable);
+    }
+
+    fn put(&mut self, load: i128, stable: bool) {
+        let load = load.clamp(i32::MIN.into(), i32::MAX.into());
+        let mark = if stable { "s" } else { "u" };
+        let zeros = if (0..1_000_000).contains(&load) && self.rng.chance(2) { "000" } else { "" };
+        self.say(&format!("{mark} {zeros}{load}"));
+    }
+
+    /// A load at or near an edge: of capacity, margin, zeroing range, 32 bits, or a tie of the rounding.
+    fn load(&mut self) -> i128 {
+        let profile = self.replay.profile.clone();
+        let state = self.state();
+        let (zero, tare) = (i128::from(state.zero), i128::from(state.tare));
+        let (capacity, margin) = (i128::from(profile.capacity), i128::from(profile.margin));
+        let range = i128::from(profile.zeroing);
+        let near = self.rng.pick(&[-1, 0, 0, 0, 1]);
+        match self.rng.below(20) {
+            0 => zero + capacity + near,
+            1 => zero - margin + near,
+            2 => zero + near,
+            3 => zero + tare + near,
+            4 => range + near,
+            5 => -range + near,
+            6 => self.rng.pick(&[i32::MIN.into(), i32::MAX.into(), 0]) + near,
+            7 => self.rng.between(-range, range),
+            8 => zero + tare - self.rng.between(0, 60),
+            9..=13 => zero + tare + self.net_tie(&profile) + near,
+            14 => self.rng.between(i32::MIN.into(), i32::MAX.into()),
+            15 => state.latest.map_or(0, |sample| sample.load.into()) + near,
+            _ => zero + self.rng.between(-margin, capacity),
+        }
+    }
+
+    /// A net that is printed with a tie, or nearly.
+    fn net_tie(&mut self, profile: &Profile) -> i128 {
+        let Scale { unit, decimals, step } = profile.scale;
+        if decimals > 7 {
+            return 0;
+        }
+        let (above, below) = (1000 * ten_to(decimals.into()), i128::from(step.max(1)) * unit.nanograms());
+        let capacity = i128::from(profile.capacity);
+        let (low, high) =
+            if self.rng.chance(40) { (-2 * below / above - 2, 2 * below / above + 2) } else { (-capacity, capacity) };
+        match some_tie(self.rng, above, below, low, high) {
+            Some(net) => net,
+            None => (2 * self.rng.between(-9, 9) + 1) * below / (2 * above),
+        }
+    }
+
+    // Commands.
+
+    fn command(&mut self) {
+        let line = self.command_line();
+        self.send(line);
+    }
+
+    /// Sends a line as `> ..`.
+    fn send(&mut self, line: Vec<u8>) {
+        self.add([b"> ", &line[..]].concat());
+    }
+
+    fn command_line(&mut self) -> Vec<u8> {
+        const NAMES: [&str; 30] = [
+            "S", "S", "S", "SI", "SI", "SI", "SI", "SIR", "SIR", "T", "T", "T", "TI", "TI", "Z", "Z", "ZI", "ZI", "TA", "TA",
+            "TAC", "@", "D", "DW", "I0", "I1", "I2", "I3", "I4", "I5",
+        ];
+        match self.rng.below(100) {
+            0..=15 => self.typed_tare(),
+            16..=20 => self.shown_text(),
+            _ => self.rng.pick(&NAMES).as_bytes().to_vec(),
+        }
+    }
+
+    fn typed_tare(&mut self) -> Vec<u8> {
+        let (number, unit) = (self.typed_number(), self.replay.profile.scale.unit.name().to_string());
+        let other = self.rng.pick(&UNITS).name();
+        let text = match self.rng.below(24) {
+            0 => format!("TA {number}"),
+            1 => format!("TA {number} {other}"),
+            2 => format!("TA {number} {}", unit.to_uppercase()),
+            3 => format!("TA {number} {}", unit.to_lowercase()),
+            4 => format!("TA  {number} {unit}"),
+            5 => format!("TA {number}  {unit}"),
+            6 => format!("TA {number} {unit} "),
+            7 => format!("TA {number}{unit}"),
+            8 => format!("TA {unit} {number}"),
+            9 => format!("TA {number} {unit}x"),
+            10 => self.rng.pick(&["TA ", "TA  ", "TA - g", "TA . g", "TA  g", "TA 1.2.3 g", "TA 1 kg"]).to_string(),
+            _ => format!("TA {number} {unit}"),
+        };
+        text.into_bytes()
+    }
+
+    /// A number near C, at a tie of its rounding to micrograms, or of an odd form.
+    fn typed_number(&mut self) -> String {
+        let nanograms = self.replay.profile.scale.unit.nanograms();
+        let capacity = i128::from(self.replay.profile.capacity);
+        let decimals = self.rng.below(7) as u8;
+        let below = 1000 * ten_to(decimals.into());
+        let most = capacity * below / nanograms + 1;
+        let ten = most.min(9_999_999_999);
+        let number = match self.rng.below(10) {
+            0..=1 => most + self.rng.between(-2, 2),
+            2..=5 => some_tie(self.rng, nanograms, below, 0, ten).unwrap_or(ten),
+            6 => self.rng.between(0, 3),
+            _ => self.rng.between(0, ten),
+        };
+        let text = number_text(number.max(0), decimals, false);
+        match self.rng.below(40) {
+            0 => format!("-{text}"),
+            1 => format!("+{text}"),
+            2 => format!("{}.", whole_part(&text)),
+            3 => text.trim_start_matches('0').to_string(),
+            4 => format!("0{text}"),
+            5 => format!("{:0>1$}", text, self.rng.pick(&[9, 10, 11])),
+            6 => format!("{:0<1$}", text, self.rng.pick(&[9, 10, 11])),
+            7 => text.replace('.', ","),
+            8 => format!("0.{:07}", self.rng.below(10_000_000)),
+            9 => format!("{text}e0"),
+            _ => text,
+        }
+    }
+
+    fn shown_text(&mut self) -> Vec<u8> {
+        let length = self.rng.pick(&[0, 1, 5, 19, 20, 20, 21, 22, 57, 58]);
+        let mut text: Vec<u8> = (0..length).map(|_| text_byte(self.rng)).collect();
+        if self.rng.chance(10) && length > 0 {
+            text[self.rng.below(length)] = b'"';
+        }
+        let (open, close): (&[u8], &[u8]) = match self.rng.below(14) {
+            0 => (b"D \"", b""),
+            1 => (b"D ", b"\""),
+            2 => (b"D ", b""),
+            3 => (b"D  \"", b"\""),
+            4 => (b"D \"", b"\" "),
+            5 => (b"D\"", b"\""),
+            6 => (b"DW \"", b"\""),
+            _ => (b"D \"", b"\""),
+        };
+        [open, &text, close].concat()
+    }
+
+    // Odd lines.
+
+    fn odd_line(&mut self) {
+        let line = self.odd_bytes();
+        self.send(line.into_iter().filter(|&byte| byte != b'\n').collect());
+    }
+
+    fn odd_bytes(&mut self) -> Vec<u8> {
+        let name = self.rng.pick(&COMMANDS).0.to_string();
+        let letter = char::from(self.rng.pick(b"ABCDIJKRSTWXZ0123456789@ "));
+        let text = match self.rng.below(16) {
+            0 => name.to_lowercase(),
+            1 => format!("{name}{letter}"),
+            2 => format!("{letter}{name}"),
+            3 => name[..name.len() - 1].to_string(),
+            4 => name[1..].to_string(),
+            5 => format!("{name} "),
+            6 => format!("{name} 1"),
+            7 => format!("{name} {letter}"),
+            8 => format!(" {name}"),
+            9 => String::new(),
+            10 => format!("{name}{name}"),
+            11 => self
+                .rng
+                .pick(&["SIX", "SIRR", "TAX", "TACT", "ZIR", "I6", "I", "I00", "DWA", "K", "SR", "C", "s", "si"])
+                .to_string(),
+            12 => return self.long_line(),
+            13 => return self.long_line(),
+            _ => return self.line_with_a_strange_byte(),
+        };
+        text.into_bytes()
+    }
+
+    /// A line of 62 to 67 bytes, or of many more.
+    fn long_line(&mut self) -> Vec<u8> {
+        let length = if self.rng.chance(80) { self.rng.between(62, 67) } else { self.rng.between(60, 200) } as usize;
+        let mut line = self.rng.pick(&["S ", "D \"", "D ", "TA ", "@ ", "X", "T 1 ", "TA 1 g "]).as_bytes().to_vec();
+        let filler = self.rng.pick(b" x0\"");
+        line.resize(length, filler);
+        line
+    }
+
+    fn line_with_a_strange_byte(&mut self) -> Vec<u8> {
+        let mut line = self.command_line();
+        let strange = self.rng.pick(&[0, 9, 13, 13, 13, 27, 31, 32, 127, 128, 160, 255]);
+        line.insert(self.rng.below(line.len() + 1), strange);
+        line
+    }
+
+    // Bytes with their marks.
+
+    /// A line with its CR LF, damaged in one place or several, as `b` and `f`.
+    fn raw_line(&mut self) {
+        let line = match self.rng.below(4) {
+            0 => self.odd_bytes(),
+            1 => self.long_line(),
+            _ => self.command_line(),
+        };
+        let mut bytes: Vec<(u8, bool)> = line.into_iter().chain(*b"\r\n").map(|byte| (byte, true)).collect();
+        for _ in 0..self.rng.pick(&[1, 1, 1, 2, 3]) {
+            self.damage(&mut bytes);
+        }
+        if self.rng.chance(70) {
+            bytes.extend([(13, true), (10, true)]);
+        }
+        self.send_marked(&bytes);
+    }
+
+    fn damage(&mut self, bytes: &mut Vec<(u8, bool)>) {
+        let length = bytes.len();
+        let at = if self.rng.chance(50) { self.rng.below(length) } else { length - 1 - self.rng.below(3.min(length)) };
+        match self.rng.below(8) {
+            0..=2 => bytes[at].1 = false,
+            3 => bytes.insert(at, (self.rng.pick(b"\r\n"), true)),
+            4 => bytes.insert(at, (self.rng.pick(b"\r\n"), false)),
+            5 if length > 1 => drop(bytes.remove(at)),
+            6 => bytes.insert(at, bytes[at]),
+            _ => bytes.extend([(13, true), (13, true), (10, true)]),
+        }
+    }
+
+    fn send_marked(&mut self, bytes: &[(u8, bool)]) {
+        for run in bytes.chunk_by(|a, b| a.1 == b.1).flat_map(|run| run.chunks(60)) {
+            let mut line = String::from(if run[0].1 { "b" } else { "f" });
+            let lower = self.rng.chance(20);
+            for (byte, _) in run {
+                line += &if lower { format!(" {byte:02x}") } else { format!(" {byte:02X}") };
+            }
+            self.say(&line);
+        }
+    }
+
+    // Rooms, profiles, texts.
+
+    fn short_room(&mut self) {
+        let room = match self.rng.below(10) {
+            0..=1 => self.rng.between(0, 3),
+            2..=7 => self.rng.between(4, 30),
+            8 => self.rng.between(229, 233),
+            _ => self.rng.pick(&[31, 48, 49, 50, 255, 256, 257, 1023, 1024]),
+        };
+        self.say(&format!("room {room}"));
+        for _ in 0..self.rng.between(1, 4) {
+            match self.rng.below(10) {
+                0..=1 => self.say("> I0"),
+                2 => self.say("on"),
+                3..=5 => self.sample(),
+                _ => self.command(),
+            }
+        }
+        self.say("room 256");
+        if self.rng.chance(60) {
+            self.say("b 0A");
+        }
+    }
+
+    /// A few calls on another profile, good or bad, then back to the former one or on again.
+    fn other_profile(&mut self) {
+        let former = self.replay.profile.clone();
+        let other = match self.rng.below(10) {
+            0..=2 => bad_profile(self.rng, &former),
+            3 => good_profile(self.rng),
+            _ => self.narrowed(&former),
+        };
+        let with_texts = other.texts != former.texts;
+        self.set_profile(&other, with_texts);
+        for _ in 0..self.rng.between(1, 4) {
+            if self.rng.chance(40) {
+                self.sample();
+            } else {
+                self.command();
+            }
+        }
+        if self.rng.chance(20) {
+            self.say("on");
+        }
+        if self.rng.chance(70) {
+            self.set_profile(&former, with_texts);
+        } else if self.replay.profile.is_refused(None) {
+            let next = good_profile(self.rng);
+            self.set_profile(&next, true);
+            self.say("on");
+        }
+    }
+
+    /// A limit drawn in to the zero, tare or count in force, or just below it.
+    fn narrowed(&mut self, former: &Profile) -> Profile {
+        let state = self.state();
+        let mut other = former.clone();
+        let below = self.rng.below(2) as u32;
+        let chosen = if state.waiting.is_some() && self.rng.chance(60) { 3 } else { self.rng.below(5) };
+        match chosen {
+            0 => {
+                other.capacity = (state.tare as u32).saturating_sub(below).max(1);
+                other.margin = other.margin.min(other.capacity);
+                other.zeroing = other.zeroing.min(other.capacity);
+            }
+            1 | 2 => other.zeroing = (state.zero.unsigned_abs() as u32).saturating_sub(below),
+            3 => other.patience = (state.waiting.map_or(1, |wait| wait.unstable + 1)).saturating_sub(below).max(1),
+            _ => other.scale = any_scale(self.rng),
+        }
+        other
+    }
+
+    fn new_text(&mut self) {
+        let at = self.rng.below(4);
+        let text = text_of(self.rng, TEXT_ROOMS[at] + 1);
+        self.add(text_line(at, &text));
+        self.say(&format!("> I{}", at + 2));
+    }
+
+    fn odd_script_line(&mut self) {
+        const LINES: [&str; 44] = [
+            "x",
+            "on ",
+            " on",
+            "On",
+            "on\r",
+            "off",
+            "s",
+            "s ",
+            "s 1 ",
+            "s  1",
+            "s +1",
+            "s 2147483648",
+            "s -2147483649",
+            "s -0",
+            "s 00000000001",
+            "u --1",
+            "u 1.0",
+            "u -",
+            "S 1",
+            "b",
+            "b ",
+            "b 4",
+            "b 4G",
+            "b 41  42",
+            "b 414",
+            "b 41 ",
+            "f",
+            "f 0x",
+            "profile",
+            "profile 1 1 1 1 g 1",
+            "profile 1 1 1 1 kg 1 1",
+            "profile 4294967296 1 1 1 g 1 1",
+            "profile 1 1 1 1 g 256 1",
+            "profile 1 1 1 1 g 1 1 1",
+            "profile 1 1 1 1 g -1 1",
+            "room",
+            "room 1025",
+            "room -1",
+            "room 10 ",
+            "text 1 x",
+            "text 6 x",
+            ">",
+            "# note",
+            "",
+        ];
+        let line = self.rng.pick(&LINES);
+        self.say(line);
+    }
+
+    // Short scenes, so that deep states are met often.
+
+    /// A command waits for a stable sample; now and then another line comes in between.
+    fn wait(&mut self) {
+        if self.rng.chance(70) {
+            self.sample_of(false);
+        }
+        let name = self.rng.pick(&["> S", "> T", "> T", "> Z", "> Z"]);
+        self.say(name);
+        let patience = self.replay.profile.patience.min(8);
+        for _ in 0..self.rng.between(0, i128::from(patience) + 1) {
+            self.sample_of(false);
+            match self.rng.below(12) {
+                0 => self.command(),
+                1 => self.odd_line(),
+                2 | 3 => self.other_profile(),
+                _ => {}
+            }
+        }
+        self.sample();
+        self.say("> TA");
+        self.say("> SI");
+    }
+
+    fn repeat(&mut self) {
+        self.say("> SIR");
+        for _ in 0..self.rng.between(1, 5) {
+            match self.rng.below(3) {
+                0 => self.command(),
+                _ => self.sample(),
+            }
+        }
+    }
+
+    /// A tare that does not stand at a display step, then weights around a tie.
+    fn tare_and_weigh(&mut self) {
+        let stable = self.rng.chance(60);
+        self.sample_of(stable);
+        let name = self.rng.pick(&["> T", "> TI", "> ZI", "> Z"]);
+        self.say(name);
+        for _ in 0..3 {
+            self.sample();
+            self.say("> SI");
+        }
+        self.say("> TA");
+    }
+}
+
+// Captures.
+
+/// Some pieces; the last one is as a rule unfinished.
+pub fn capture(rng: &mut Rng) -> Script {
+    let mut pieces: Script = (0..rng.between(20, 150)).map(|_| piece(rng)).collect();
+    let mut last = answer_line(rng);
+    last.truncate(last.len() - rng.below(3));
+    pieces.push(last);
+    pieces
+}
+
+/// A piece of a capture: a good answer line, a damaged one, or rubbish.
+fn piece(rng: &mut Rng) -> Vec<u8> {
+    let mut line = answer_line(rng);
+    match rng.below(10) {
+        0..=4 => {}
+        5 | 6 => change(rng, &mut line),
+        7 => drop(line.remove(rng.below(line.len()))),
+        8 => {
+            let at = rng.below(line.len());
+            line.insert(at, line[at]);
+        }
+        _ => {
+            let rubbish = (0..rng.below(30)).map(|_| rng.between(0, 255) as u8).collect::<Vec<u8>>();
+            line = if rng.chance(60) { [&rubbish[..], b"\r\n"].concat() } else { rubbish };
+        }
+    }
+    line
+}
+
+fn change(rng: &mut Rng, line: &mut [u8]) {
+    let at = rng.below(line.len());
+    line[at] = match rng.below(3) {
+        0 => line[at] ^ (1 << rng.below(8)),
+        1 => rng.pick(b" 0123456789.-+\"ABDILSTZ@\r\ngmctoz"),
+        _ => rng.between(0, 255) as u8,
+    };
+}
+
+fn answer_line(rng: &mut Rng) -> Vec<u8> {
+    let body = match rng.below(10) {
+        0..=4 => weight_body(rng).into_bytes(),
+        5 | 6 => {
+            let letters = ["A", "A", "S", "D", "+", "-", "L", "I", "I", "B"];
+            format!("{} {}", rng.pick(&COMMANDS).0, rng.pick(&letters)).into_bytes()
+        }
+        7 => rng
+            .pick(&["ES", "ET", "EL", "EI", "es", "E", "I1 A \"0\" \"2.30\" \"2.20\"", "I1 A \"01\" \"2.30\" \"2.20\""])
+            .as_bytes()
+            .to_vec(),
+        8 => listed_body(rng).into_bytes(),
+        _ => text_body(rng),
+    };
+    [&body[..], b"\r\n"].concat()
+}
+
+fn listed_body(rng: &mut Rng) -> String {
+    let (name, level) = rng.pick(&COMMANDS);
+    let told = if rng.chance(80) { level } else { rng.below(3) as u8 };
+    format!("I0 {} {told} \"{name}\"", rng.pick(&["A", "B", "B", "I"]))
+}
+
+fn text_body(rng: &mut Rng) -> Vec<u8> {
+    let at = rng.below(4);
+    let mut text = text_of(rng, TEXT_ROOMS[at] + 1);
+    if rng.chance(10) {
+        text.push(rng.pick(&[b'"', 31, 0, 127]));
+    }
+    [format!("I{} A \"", at + 2).as_bytes(), &text, b"\""].concat()
+}
+
+fn weight_body(rng: &mut Rng) -> String {
+    let head = rng.pick(&["S S", "S S", "S D", "T S", "TI S", "TI D", "TA A", "T D", "Z S", "ZI S", "SI S", "S A"]);
+    let unit = if rng.chance(95) { rng.pick(&UNITS).name() } else { rng.pick(&["kg", "lb", "", "G", "gn", "g "]) };
+    let number = field_number(rng);
+    match rng.below(20) {
+        0 => format!("{head} {number} {unit}"),
+        1 => format!("{head} {number:<10} {unit}"),
+        2 => format!("{head} {number:>9} {unit}"),
+        3 => format!("{head} {number:>11} {unit}"),
+        4 => format!("{head} {number:>10} {unit} "),
+        _ => format!("{head} {number:>10} {unit}"),
+    }
+}
+
+/// A number of the field, at its limits, or nearly one.
+fn field_number(rng: &mut Rng) -> String {
+    let decimals = if rng.chance(95) { rng.below(7) as u8 } else { rng.pick(&[7, 8]) };
+    let value = match rng.below(5) {
+        0 => 0,
+        1 => rng.between(-3, 3),
+        2 => ten_to(rng.below(11) as u32) - rng.between(0, 1),
+        3 => 1 - ten_to(rng.below(11) as u32) - rng.between(0, 1),
+        _ => rng.between(-9_999_999, 99_999_999),
+    };
+    let number = number_text(value, decimals, value < 0);
+    match rng.below(30) {
+        0 => format!("0{number}"),
+        1 => format!("-{number}"),
+        2 => format!("{}.", whole_part(&number)),
+        3 => number.replacen('0', "", 1),
+        4 => number_text(0, decimals, true),
+        5 => format!("+{number}"),
+        _ => number,
+    }
+}

@@ -1,0 +1,182 @@
+//! The program replay of issue 6: a script in, the module's answers out.
+
+use crate::faults::Fault;
+use crate::module::{Module, Outcome, Sample, State};
+use crate::profile::{Profile, TEXT_ROOMS};
+use crate::tally::Call;
+use crate::weight::{Scale, Unit};
+
+const MOST: u64 = 4_294_967_295;
+
+/// One call as the tally and the counters see it; no call is a power-on.
+pub struct Event<'a> {
+    pub call: Option<Call>,
+    pub profile: &'a Profile,
+    pub refusal: u8,
+    pub answer: &'a [u8],
+}
+
+/// What a script line asks for.
+enum Order {
+    Nothing,
+    Profile { capacity: u32, margin: u32, zeroing: u32, patience: u32, scale: Scale },
+    Text { at: usize, text: Vec<u8> },
+    Room(usize),
+    On,
+    Calls(Vec<Call>),
+}
+
+pub struct Replay {
+    pub module: Module,
+    pub profile: Profile,
+    pub room: usize,
+    /// None before a power-on was granted.
+    pub state: Option<State>,
+}
+
+impl Replay {
+    pub fn new(module: Module) -> Replay {
+        Replay { module, profile: Profile::a(), room: 256, state: None }
+    }
+
+    /// Does one line of the script; its output is added to out, and each call is shown to the watcher.
+    pub fn line(&mut self, line: &[u8], out: &mut Vec<u8>, watch: &mut dyn FnMut(&Event)) {
+        match order(line) {
+            None => out.extend(b"?\r\n"),
+            Some(Order::Nothing) => {}
+            Some(Order::Profile { capacity, margin, zeroing, patience, scale }) => {
+                let texts = std::mem::take(&mut self.profile.texts);
+                self.profile = Profile { capacity, margin, zeroing, patience, scale, texts };
+            }
+            Some(Order::Text { at, text }) => self.profile.texts[at] = text,
+            Some(Order::Room(room)) => self.room = room,
+            Some(Order::On) => self.on(out, watch),
+            Some(Order::Calls(_)) if self.state.is_none() => out.extend(b"?\r\n"),
+            Some(Order::Calls(calls)) => calls.into_iter().for_each(|call| self.call(call, out, watch)),
+        }
+    }
+
+    fn on(&mut self, out: &mut Vec<u8>, watch: &mut dyn FnMut(&Event)) {
+        let mut buffer = vec![0; self.room];
+        let mut state = self.state.clone().unwrap_or_default();
+        let outcome = self.module.power_on(&self.profile, &mut state, &mut buffer);
+        if outcome.refusal == 0 {
+            self.state = Some(state);
+        } else if self.module.fault == Some(Fault::RefusedOnForgetsState) {
+            self.state = None;
+        }
+        self.tell(None, outcome, &buffer, out, watch);
+    }
+
+    fn call(&mut self, call: Call, out: &mut Vec<u8>, watch: &mut dyn FnMut(&Event)) {
+        let mut buffer = vec![0; self.room];
+        let Some(state) = self.state.as_mut() else { return };
+        let outcome = match call {
+            Call::Byte { byte, good } => self.module.byte(&self.profile, state, byte, u8::from(!good), &mut buffer),
+            Call::Sample { load, stable } => self.module.sample(&self.profile, state, Sample { load, stable }, &mut buffer),
+        };
+        self.tell(Some(call), outcome, &buffer, out, watch);
+    }
+
+    fn tell(&self, call: Option<Call>, outcome: Outcome, buffer: &[u8], out: &mut Vec<u8>, watch: &mut dyn FnMut(&Event)) {
+        let answer = &buffer[..outcome.n];
+        if outcome.refusal == 0 {
+            out.extend(answer);
+        } else {
+            out.extend(format!("refused {}\r\n", outcome.refusal).bytes());
+        }
+        watch(&Event { call, profile: &self.profile, refusal: outcome.refusal, answer });
+    }
+}
+
+/// A whole script, from its bytes to the output's.
+pub fn replay(script: &[u8]) -> Vec<u8> {
+    replay_with(Module::default(), script, &mut |_| {})
+}
+
+pub fn replay_with(module: Module, script: &[u8], watch: &mut dyn FnMut(&Event)) -> Vec<u8> {
+    let mut replay = Replay::new(module);
+    let mut out = vec![];
+    for line in script_lines(script) {
+        replay.line(line, &mut out, watch);
+    }
+    out
+}
+
+/// A line ends at LF alone; a last one without it counts.
+pub fn script_lines(script: &[u8]) -> impl Iterator<Item = &[u8]> {
+    script.split_inclusive(|&byte| byte == b'\n').map(|line| line.strip_suffix(b"\n").unwrap_or(line))
+}
+
+fn order(line: &[u8]) -> Option<Order> {
+    if line.is_empty() || line[0] == b'#' {
+        return Some(Order::Nothing);
+    }
+    if line == b"on" {
+        return Some(Order::On);
+    }
+    let at = line.iter().position(|&byte| byte == b' ')?;
+    let rest = &line[at + 1..];
+    match &line[..at] {
+        b"profile" => profile_order(rest),
+        b"text" => text_order(rest),
+        b"room" => Some(Order::Room(number(rest, 1024)? as usize)),
+        b"b" => bytes_order(rest, true),
+        b"f" => bytes_order(rest, false),
+        b">" => Some(Order::Calls(rest.iter().chain(b"\r\n").map(|&byte| Call::Byte { byte, good: true }).collect())),
+        b"s" => Some(Order::Calls(vec![Call::Sample { load: load(rest)?, stable: true }])),
+        b"u" => Some(Order::Calls(vec![Call::Sample { load: load(rest)?, stable: false }])),
+        _ => None,
+    }
+}
+
+fn profile_order(rest: &[u8]) -> Option<Order> {
+    let words: Vec<&[u8]> = rest.split(|&byte| byte == b' ').collect();
+    let [capacity, margin, zeroing, patience, unit, decimals, step] = words[..] else { return None };
+    let weight = |word| number(word, MOST).map(|n| n as u32);
+    let small = |word| number(word, 255).map(|n| n as u8);
+    Some(Order::Profile {
+        capacity: weight(capacity)?,
+        margin: weight(margin)?,
+        zeroing: weight(zeroing)?,
+        patience: weight(patience)?,
+        scale: Scale { unit: Unit::named(unit)?, decimals: small(decimals)?, step: small(step)? },
+    })
+}
+
+fn text_order(rest: &[u8]) -> Option<Order> {
+    let [which @ b'2'..=b'5', b' ', text @ ..] = rest else { return None };
+    let at = usize::from(which - b'2');
+    (text.len() <= TEXT_ROOMS[at]).then(|| Order::Text { at, text: text.to_vec() })
+}
+
+fn bytes_order(rest: &[u8], good: bool) -> Option<Order> {
+    let words = rest.split(|&byte| byte == b' ');
+    let bytes: Option<Vec<u8>> = words.map(hex).collect();
+    Some(Order::Calls(bytes?.into_iter().map(|byte| Call::Byte { byte, good }).collect()))
+}
+
+fn hex(word: &[u8]) -> Option<u8> {
+    let [high, low] = word else { return None };
+    let digit = |byte: u8| char::from(byte).to_digit(16);
+    Some((digit(*high)? * 16 + digit(*low)?) as u8)
+}
+
+/// 1 to 10 digits, at most so much.
+fn number(word: &[u8], most: u64) -> Option<u64> {
+    if word.is_empty() || word.len() > 10 || !word.iter().all(u8::is_ascii_digit) {
+        return None;
+    }
+    let value = word.iter().fold(0, |sum, digit| sum * 10 + u64::from(digit - b'0'));
+    (value <= most).then_some(value)
+}
+
+/// An optional minus and 1 to 10 digits, within 32 bits.
+fn load(word: &[u8]) -> Option<i32> {
+    let (sign, digits) = match word.strip_prefix(b"-") {
+        Some(digits) => (-1, digits),
+        None => (1, word),
+    };
+    let size = number(digits, 9_999_999_999)? as i64;
+    i32::try_from(sign * size).ok()
+}

@@ -1,0 +1,132 @@
+//! The tally of demand 3. It reads calls and answers alone, never the state, and judges every weight in them.
+
+use crate::profile::Profile;
+use crate::weight::{ten_to, typed_number};
+
+/// Femtograms in a microgram.
+const MICROGRAM: i128 = 1_000_000_000;
+
+#[derive(Clone, Copy, Debug, PartialEq, Eq)]
+pub enum Call {
+    Byte { byte: u8, good: bool },
+    Sample { load: i32, stable: bool },
+}
+
+/// All weights are in femtograms, in which they are whole.
+pub struct Tally {
+    profile: Profile,
+    line: Vec<(u8, bool)>,
+    load: Option<i128>,
+    zero: i128,
+    tare: i128,
+    typed: bool,
+}
+
+impl Tally {
+    pub fn new(profile: &Profile) -> Tally {
+        Tally { profile: profile.clone(), line: vec![], load: None, zero: 0, tare: 0, typed: false }
+    }
+
+    /// Takes one call with its refusal number and answer; says what is wrong with the answer.
+    pub fn take(&mut self, call: Call, refusal: u8, answer: &[u8]) -> Result<(), String> {
+        if refusal != 0 {
+            return Ok(());
+        }
+        let ended = self.join(call);
+        if ended.as_deref() == Some(&[(b'@', true)]) {
+            self.set_tare(0, false);
+        }
+        self.grant(answer, ended.as_deref())?;
+        self.compare(answer)
+    }
+
+    /// The line that this call ended, without its CR LF.
+    fn join(&mut self, call: Call) -> Option<Vec<(u8, bool)>> {
+        match call {
+            Call::Sample { load, .. } => {
+                self.load = Some(i128::from(load) * MICROGRAM);
+                None
+            }
+            Call::Byte { byte, good } => {
+                self.line.push((byte, good));
+                if !self.line.ends_with(&[(13, true), (10, true)]) {
+                    return None;
+                }
+                let mut ended = std::mem::take(&mut self.line);
+                ended.truncate(ended.len() - 2);
+                Some(ended)
+            }
+        }
+    }
+
+    fn set_tare(&mut self, tare: i128, typed: bool) {
+        self.tare = tare;
+        self.typed = typed;
+    }
+
+    fn latest(&self) -> Result<i128, String> {
+        self.load.ok_or_else(|| "an answer needs a load before one came".to_string())
+    }
+
+    /// What a granted command sets.
+    fn grant(&mut self, answer: &[u8], ended: Option<&[(u8, bool)]>) -> Result<(), String> {
+        if begins(answer, &["Z A", "ZI S", "ZI D"]) {
+            self.zero = self.latest()?;
+            self.set_tare(0, false);
+        } else if begins(answer, &["T S", "TI S", "TI D"]) {
+            self.set_tare(self.latest()? - self.zero, false);
+        } else if begins(answer, &["TAC A"]) {
+            self.set_tare(0, false);
+        } else if begins(answer, &["TA A"]) {
+            let line: Vec<u8> = ended.ok_or("TA A without a line")?.iter().map(|(byte, _)| *byte).collect();
+            if line != b"TA" {
+                let typed = self.typed_tare(&line).ok_or("TA A to a line without a number")?;
+                self.set_tare(typed, true);
+            }
+        }
+        Ok(())
+    }
+
+    /// The number in the line x unit, unrounded.
+    fn typed_tare(&self, line: &[u8]) -> Option<i128> {
+        let number = line.strip_prefix(b"TA ")?.split(|&byte| byte == b' ').next()?;
+        let (digits, decimals) = typed_number(number, None)?;
+        Some(digits * ten_to(6 - decimals) * self.profile.scale.unit.nanograms())
+    }
+
+    /// Number and exact weight differ by at most half a step, and half a microgram if the tare is typed.
+    fn compare(&self, answer: &[u8]) -> Result<(), String> {
+        let exact = if begins(answer, &["S S ", "S D "]) {
+            self.latest()? - self.zero - self.tare
+        } else if begins(answer, &["T S ", "TI S ", "TI D ", "TA A "]) {
+            self.tare
+        } else {
+            return Ok(());
+        };
+        let number = self.told(answer).ok_or("a weight answer without a number")?;
+        let scale = self.profile.scale;
+        let step = i128::from(scale.step) * scale.unit.nanograms() * ten_to(6 - u32::from(scale.decimals));
+        let allowed = step + if self.typed { MICROGRAM } else { 0 };
+        if 2 * (number - exact).abs() > allowed {
+            return Err(format!("{number} fg told, {exact} fg exact, twice the difference may be {allowed}"));
+        }
+        Ok(())
+    }
+
+    /// The ten characters, spaces left out, as a decimal x unit.
+    fn told(&self, answer: &[u8]) -> Option<i128> {
+        let start = answer.iter().position(|&byte| byte == b' ')? + 3;
+        let field = answer.get(start..start + 10)?;
+        let text: Vec<u8> = field.iter().copied().filter(|&byte| byte != b' ').collect();
+        let (sign, size) = match text.strip_prefix(b"-") {
+            Some(size) => (-1, size),
+            None => (1, &text[..]),
+        };
+        let (digits, decimals) = typed_number(size, None)?;
+        Some(sign * digits * ten_to(6 - decimals) * self.profile.scale.unit.nanograms())
+    }
+}
+
+fn begins(answer: &[u8], beginnings: &[&str]) -> bool {
+    beginnings.iter().any(|beginning| answer.starts_with(beginning.as_bytes()))
+}

@@ -1,0 +1,158 @@
+//! Weights: units, the rounding to the display, the ten characters, typed numbers.
+
+use crate::faults::Fault;
+
+#[derive(Clone, Copy, Debug, PartialEq, Eq)]
+pub enum Unit {
+    Gram,
+    Milligram,
+    Carat,
+    Ounce,
+    TroyOunce,
+    Grain,
+    Pennyweight,
+}
+
+pub const UNITS: [Unit; 7] =
+    [Unit::Gram, Unit::Milligram, Unit::Carat, Unit::Ounce, Unit::TroyOunce, Unit::Grain, Unit::Pennyweight];
+
+impl Unit {
+    pub fn name(self) -> &'static str {
+        match self {
+            Unit::Gram => "g",
+            Unit::Milligram => "mg",
+            Unit::Carat => "ct",
+            Unit::Ounce => "oz",
+            Unit::TroyOunce => "ozt",
+            Unit::Grain => "GN",
+            Unit::Pennyweight => "dwt",
+        }
+    }
+
+    pub fn nanograms(self) -> i128 {
+        match self {
+            Unit::Gram => 1_000_000_000,
+            Unit::Milligram => 1_000_000,
+            Unit::Carat => 200_000_000,
+            Unit::Ounce => 28_349_523_125,
+            Unit::TroyOunce => 31_103_476_800,
+            Unit::Grain => 64_798_910,
+            Unit::Pennyweight => 1_555_173_840,
+        }
+    }
+
+    pub fn named(name: &[u8]) -> Option<Unit> {
+        UNITS.into_iter().find(|unit| unit.name().as_bytes() == name)
+    }
+
+    fn weighed(self, fault: Option<Fault>) -> i128 {
+        match (self, fault) {
+            (Unit::Ounce, Some(Fault::OunceCutShort)) => 28_349_523_000,
+            (Unit::Grain, Some(Fault::GrainCutShort)) => 64_798_900,
+            (Unit::TroyOunce, Some(Fault::TroyOunceCutShort)) => 31_103_476_000,
+            (Unit::Pennyweight, Some(Fault::PennyweightCutShort)) => 1_555_173_000,
+            _ => self.nanograms(),
+        }
+    }
+}
+
+pub fn ten_to(power: u32) -> i128 {
+    10i128.pow(power)
+}
+
+/// What a weight is printed in.
+#[derive(Clone, Copy, Debug, PartialEq, Eq)]
+pub struct Scale {
+    pub unit: Unit,
+    pub decimals: u8,
+    pub step: u8,
+}
+
+/// net x 1,000 x 10^d / unit, to the nearest multiple of k, a tie away from zero; counted in last places.
+pub fn last_places(net: i128, scale: Scale, fault: Option<Fault>) -> i128 {
+    let net = if fault == Some(Fault::RoundedTwice) { (net + 50).div_euclid(100) * 100 } else { net };
+    let k = if fault == Some(Fault::StepIgnored) { 1 } else { i128::from(scale.step) };
+    let exact = net.abs() * 1000 * ten_to(scale.decimals.into());
+    let step = k * scale.unit.weighed(fault);
+    let steps = nearest(exact, step, fault);
+    net.signum() * steps * k
+}
+
+/// The whole number nearest to a / b, both not negative, the larger one at a tie.
+fn nearest(a: i128, b: i128, fault: Option<Fault>) -> i128 {
+    let number = (2 * a + b) / (2 * b);
+    let tie = 2 * a % (2 * b) == b;
+    match fault {
+        Some(Fault::TieTowardsZero) if tie => number - 1,
+        Some(Fault::TieToEven) if tie => number - number % 2,
+        Some(Fault::RoundedTowardsZero) => a / b,
+        _ => number,
+    }
+}
+
+/// The digits with d decimals, a minus before them if asked for.
+pub fn number_text(places: i128, decimals: u8, minus: bool) -> String {
+    let d = usize::from(decimals);
+    let digits = format!("{:0>1$}", places.abs().to_string(), d + 1);
+    let (whole, part) = digits.split_at(digits.len() - d);
+    let sign = if minus { "-" } else { "" };
+    let point = if d == 0 { "" } else { "." };
+    format!("{sign}{whole}{point}{part}")
+}
+
+/// A net as it is printed, without the spaces before it.
+pub fn printed(net: i128, scale: Scale, fault: Option<Fault>) -> String {
+    let places = last_places(net, scale, fault);
+    let minus = places < 0 || (fault == Some(Fault::MinusZeroPrinted) && net < 0);
+    number_text(places, scale.decimals, minus)
+}
+
+/// The ten characters and the unit.
+pub fn weight_text(net: i128, scale: Scale, fault: Option<Fault>) -> String {
+    let number = printed(net, scale, fault);
+    let unit = scale.unit.name();
+    if fault == Some(Fault::LeftAligned) {
+        return format!("{number:<10} {unit}");
+    }
+    format!("{number:>10} {unit}")
+}
+
+/// A typed number: its digits as a whole number, and how many of them are decimals.
+pub fn typed_number(text: &[u8], fault: Option<Fault>) -> Option<(i128, u32)> {
+    let most = if fault == Some(Fault::TypedElevenCharacters) { 11 } else { 10 };
+    if text.is_empty() || text.len() > most {
+        return None;
+    }
+    let (whole, part) = match text.iter().position(|&byte| byte == b'.') {
+        Some(at) => (&text[..at], Some(&text[at + 1..])),
+        None => (text, None),
+    };
+    let decimals = part.unwrap_or(b"");
+    let bare = part == Some(b"") && fault != Some(Fault::TypedBarePoint);
+    let most = if fault == Some(Fault::TypedSevenDecimals) { 7 } else { 6 };
+    if whole.is_empty() || bare || decimals.len() > most {
+        return None;
+    }
+    let digits = [whole, decimals].concat();
+    if !digits.iter().all(u8::is_ascii_digit) {
+        return None;
+    }
+    let number = digits.iter().fold(0, |sum, digit| sum * 10 + i128::from(digit - b'0'));
+    Some((number, decimals.len() as u32))
+}
+
+/// A typed number in micrograms, rounded once, a tie upwards.
+pub fn typed_micrograms(text: &[u8], scale: Scale, fault: Option<Fault>) -> Option<i128> {
+    let (number, decimals) = typed_number(text, fault)?;
+    let nanograms = number * scale.unit.weighed(fault);
+    let below = 1000 * ten_to(decimals);
+    let tie = 2 * nanograms % (2 * below) == below;
+    let micrograms = (2 * nanograms + below) / (2 * below);
+    Some(if tie && fault == Some(Fault::TypedTieDownwards) { micrograms - 1 } else { micrograms })
+}
+
+/// The micrograms that the printed number stands for, for the fault that keeps these.
+pub fn as_printed(net: i128, scale: Scale) -> i128 {
+    let places = last_places(net, scale, None);
+    places * scale.unit.nanograms() / (1000 * ten_to(scale.decimals.into()))
+}

@@ -1,0 +1,104 @@
+//! The mutation check: each small fault, switched on in this implementation, has to be noticed by the comparison.
+
+use independent::compare::{capture_bytes, difference, script_bytes, shown, Judge, Script};
+use independent::decode::{decode, decode_with};
+use independent::faults::{Fault, OF_THE_MODULE, OF_THE_READER};
+use independent::module::Module;
+use independent::random::{capture, script, Rng};
+use independent::reader::Reader;
+use independent::replay::{replay, replay_with};
+
+const SEED: u64 = 1;
+const SCRIPTS: usize = 400;
+/// The tally sees a unit that is a little short only beside a tie, so it gets more.
+const JUDGED_SCRIPTS: usize = 1_600;
+const CAPTURES: usize = 200;
+
+/// Faults that break demand 3, so that the tally alone has to notice them.
+const JUDGED: &[Fault] = &[
+    Fault::RoundedTowardsZero,
+    Fault::RoundedTwice,
+    Fault::OunceCutShort,
+    Fault::GrainCutShort,
+    Fault::TroyOunceCutShort,
+    Fault::TareStoredAtCommand,
+    Fault::TareKeptAfterTimeout,
+    Fault::ZeroKeptAfterTimeout,
+    Fault::PrintedTareSubtracted,
+    Fault::ResetKeepsTare,
+    Fault::ResetClearsZero,
+    Fault::ZeroingKeepsTare,
+    Fault::ZeroingByGross,
+    Fault::TareByNet,
+    Fault::FirstSampleKept,
+    Fault::TypedRoundedToStep,
+    Fault::QueryClearsTare,
+];
+
+fn scripts(count: usize) -> Vec<Script> {
+    let mut rng = Rng::new(SEED);
+    (0..count).map(|_| script(&mut rng)).collect()
+}
+
+#[test]
+fn every_fault_of_the_module_is_noticed() {
+    let scripts = scripts(SCRIPTS);
+    let mut unnoticed = vec![];
+    for &fault in OF_THE_MODULE {
+        let faulty = |input: &[u8]| replay_with(Module { fault: Some(fault) }, input, &mut |_| {});
+        match scripts.iter().position(|one| faulty(&script_bytes(one)) != replay(&script_bytes(one))) {
+            Some(at) => println!("{fault:?}: noticed by script {at}"),
+            None => unnoticed.push(fault),
+        }
+    }
+    assert!(unnoticed.is_empty(), "not noticed: {unnoticed:?}");
+}
+
+#[test]
+fn every_fault_of_the_reader_is_noticed() {
+    let mut rng = Rng::new(SEED);
+    let captures: Vec<Script> = (0..CAPTURES).map(|_| capture(&mut rng)).collect();
+    let mut unnoticed = vec![];
+    for &fault in OF_THE_READER {
+        let faulty = |input: &[u8]| decode_with(Reader { fault: Some(fault) }, input);
+        match captures.iter().position(|one| faulty(&capture_bytes(one)) != decode(&capture_bytes(one))) {
+            Some(at) => println!("{fault:?}: noticed by capture {at}"),
+            None => unnoticed.push(fault),
+        }
+    }
+    assert!(unnoticed.is_empty(), "not noticed: {unnoticed:?}");
+}
+
+/// No line and no byte of the script shown can be left out.
+#[test]
+fn a_difference_is_shown_by_a_short_script() {
+    for fault in [Fault::ResetKeepsRepetition, Fault::FaultPastLimitForgotten, Fault::TareKeptAfterTimeout, Fault::CountUnjudged]
+    {
+        let faulty = |input: &[u8]| replay_with(Module { fault: Some(fault) }, input, &mut |_| {});
+        let shortest = difference(&scripts(SCRIPTS), script_bytes, &faulty, &replay).expect("a difference");
+        println!("{fault:?}\n{}", shown(&script_bytes(&shortest)));
+        let same = |lines: &[Vec<u8>]| faulty(&script_bytes(lines)) == replay(&script_bytes(lines));
+        for at in 0..shortest.len() {
+            assert!(same(&[&shortest[..at], &shortest[at + 1..]].concat()), "line {at} can be left out");
+            let mut fewer = shortest.clone();
+            for byte in 0..shortest[at].len() {
+                fewer[at] = [&shortest[at][..byte], &shortest[at][byte + 1..]].concat();
+                assert!(same(&fewer), "byte {byte} of line {at} can be left out");
+            }
+        }
+    }
+}
+
+#[test]
+fn the_tally_notices_wrong_weights() {
+    let input = script_bytes(&scripts(JUDGED_SCRIPTS).concat());
+    let judged = |fault| {
+        let mut judge = Judge::default();
+        replay_with(Module { fault }, &input, &mut |event| judge.see(event));
+        judge.faults
+    };
+    assert_eq!(judged(None), Vec::<String>::new());
+    for &fault in JUDGED {
+        assert!(!judged(Some(fault)).is_empty(), "{fault:?}");
+    }
+}

@@ -1,0 +1,241 @@
+//! The paper's cases on this implementation, and constructed states, readings and histories.
+
+use independent::cases;
+use independent::compare::shown;
+use independent::decode::decode;
+use independent::module::{Line, Module, Outcome, Sample, State, Wait};
+use independent::profile::Profile;
+use independent::reader::{line_of, write, Answer, Reader};
+use independent::replay::replay;
+use independent::tally::{Call, Tally};
+use independent::weight::{printed, Scale, Unit};
+
+const MODULE: Module = Module { fault: None };
+
+#[test]
+fn bench_cases_and_worked_examples() {
+    for case in cases::all() {
+        let told = replay(case.script.as_bytes());
+        assert_eq!(shown(&told), shown(case.prints.as_bytes()), "{}", case.name);
+    }
+}
+
+#[test]
+fn the_list_has_231_bytes() {
+    let told = replay(b"on\n> I0\n");
+    assert_eq!(told.len(), 231 + b"I4 A \"VA-0001\"\r\n".len());
+}
+
+#[test]
+fn captures_of_the_manuals() {
+    for (line, prints) in cases::captures() {
+        assert_eq!(shown(&decode(line.as_bytes())), shown(prints.as_bytes()), "{line:?}");
+    }
+}
+
+// The replay program's own lines.
+
+#[test]
+fn calls_before_power_on() {
+    assert_eq!(
+        replay(b"> S\ns 1\nb 41\n# note\n\nroom 3\non\ns 1\nroom 256\non\ns 1\n"),
+        b"?\r\n?\r\n?\r\nrefused 3\r\n?\r\nI4 A \"VA-0001\"\r\n"
+    );
+}
+
+#[test]
+fn a_refused_power_on_gives_the_state_back() {
+    let script = b"on\ns 5000\n> T\nprofile 0 0 0 0 g 0 0\non\nprofile 220000000 1000000 4400000 3 g 4 1\n> TA\n";
+    let told = replay(script);
+    assert!(told.ends_with(b"refused 1\r\nTA A     0.0050 g\r\n"), "{}", shown(&told));
+}
+
+#[test]
+fn texts_of_a_script() {
+    let script = b"text 4 \non\ntext 4 123456789012345678901\ntext 5 \x80\xff\n> I5\ntext 2 a\"b\n> \n";
+    let told = replay(script);
+    assert_eq!(told, b"I4 A \"\"\r\n?\r\nI5 A \"\x80\xff\"\r\nrefused 1\r\nrefused 1\r\n");
+}
+
+// Constructed states.
+
+/// The refusal of a byte and of a sample call, which have to leave state and buffer.
+fn refusal_of(profile: &Profile, state: &State) -> u8 {
+    let (mut one, mut other) = (state.clone(), state.clone());
+    let mut buffer = [7; 256];
+    let byte = MODULE.byte(profile, &mut one, b'S', 0, &mut buffer);
+    assert_eq!((buffer, byte.n), ([7; 256], 0));
+    let sample = MODULE.sample(profile, &mut other, Sample { load: 0, stable: true }, &mut [7; 256]);
+    assert_eq!(byte.refusal, sample.refusal);
+    assert!(byte.refusal == 0 || (&one == state && &other == state));
+    byte.refusal
+}
+
+#[test]
+fn constructed_states() {
+    let a = Profile::a();
+    let fine = State { latest: Some(Sample { load: 1, stable: false }), ..State::default() };
+    let wait = |unstable| Some(Wait { name: "S", unstable });
+    let line = |length| Line { bytes: vec![b'S'; length], ..Line::default() };
+    let cases = [
+        (0, fine.clone()),
+        (0, State { zero: 4_400_000, ..fine.clone() }),
+        (2, State { zero: 4_400_001, ..fine.clone() }),
+        (0, State { zero: -4_400_000, ..fine.clone() }),
+        (2, State { zero: -4_400_001, ..fine.clone() }),
+        (0, State { tare: 220_000_000, ..fine.clone() }),
+        (2, State { tare: 220_000_001, ..fine.clone() }),
+        (2, State { tare: -1, ..fine.clone() }),
+        (0, State { line: line(64), ..fine.clone() }),
+        (2, State { line: line(65), ..fine.clone() }),
+        (0, State { shown: Some(vec![255; 20]), ..fine.clone() }),
+        (2, State { shown: Some(vec![255; 21]), ..fine.clone() }),
+        (2, State { shown: Some(vec![34]), ..fine.clone() }),
+        (2, State { shown: Some(vec![31]), ..fine.clone() }),
+        (0, State { waiting: wait(2), ..fine.clone() }),
+        (2, State { waiting: wait(3), ..fine.clone() }),
+        (0, State { repeating: true, ..fine.clone() }),
+        (2, State { repeating: true, latest: None, ..fine.clone() }),
+    ];
+    for (refusal, state) in cases {
+        assert_eq!(refusal_of(&a, &state), refusal, "{state:?}");
+        let bad = Profile { patience: 0, ..Profile::a() };
+        assert_eq!(refusal_of(&bad, &state), 1, "{state:?}");
+    }
+}
+
+#[test]
+fn power_on_reads_no_state() {
+    let bad = State { zero: i64::MAX, tare: -5, repeating: true, ..State::default() };
+    let mut state = bad.clone();
+    let mut buffer = [7; 20];
+    assert_eq!(MODULE.power_on(&Profile::a(), &mut state, &mut buffer[..15]), Outcome { refusal: 3, n: 0 });
+    assert_eq!((&state, buffer), (&bad, [7; 20]));
+    assert_eq!(MODULE.power_on(&Profile::a(), &mut state, &mut buffer[..16]), Outcome { refusal: 0, n: 16 });
+    assert_eq!((state, &buffer), (State::default(), b"I4 A \"VA-0001\"\r\n\x07\x07\x07\x07"));
+}
+
+#[test]
+fn texts_too_long_are_refused() {
+    for (at, room) in [(0, 40), (1, 40), (2, 20), (3, 20)] {
+        let mut profile = Profile::a();
+        profile.texts[at] = vec![b'x'; room];
+        assert!(!profile.is_refused(None));
+        profile.texts[at].push(b'x');
+        assert!(profile.is_refused(None));
+    }
+}
+
+#[test]
+fn the_display_shows_a_text_or_the_weight() {
+    let mut state = State::default();
+    let mut send = |line: &[u8]| {
+        for byte in line {
+            MODULE.byte(&Profile::a(), &mut state, *byte, 0, &mut [0; 256]);
+        }
+        state.shown.clone()
+    };
+    assert_eq!(send(b"D \"HALLO\"\r\n"), Some(b"HALLO".to_vec()));
+    assert_eq!(send(b"D \"HA\r\n"), Some(b"HALLO".to_vec()));
+    assert_eq!(send(b"D \"\"\r\n"), Some(vec![]));
+    assert_eq!(send(b"DW\r\n"), None);
+    assert_eq!(send(b"D \"x\"\r\n"), Some(b"x".to_vec()));
+    assert_eq!(send(b"@\r\n"), None);
+}
+
+#[test]
+fn the_largest_answers_fit_256_bytes() {
+    assert!(replay(b"on\n> I0\n").len() - 16 <= 256);
+}
+
+#[test]
+fn numbers_without_decimals_have_no_point() {
+    let scale = Scale { unit: Unit::Milligram, decimals: 0, step: 2 };
+    assert_eq!(printed(2_999, scale, None), "2");
+    assert_eq!(printed(3_000, scale, None), "4");
+    assert_eq!(printed(-3_000, scale, None), "-4");
+    assert_eq!(printed(-999, scale, None), "0");
+}
+
+// The tally.
+
+/// Feeds lines and samples, with the answer to the last byte or sample of each.
+fn tallied(history: &[(&str, &str)]) -> Result<(), String> {
+    let mut tally = Tally::new(&Profile::a());
+    for (line, answer) in history {
+        let answer = format!("{answer}\r\n");
+        if let Ok(load) = line.parse() {
+            tally.take(Call::Sample { load, stable: true }, 0, answer.as_bytes())?;
+            continue;
+        }
+        for byte in format!("{line}\r").bytes() {
+            tally.take(Call::Byte { byte, good: true }, 0, b"")?;
+        }
+        tally.take(Call::Byte { byte: b'\n', good: true }, 0, answer.as_bytes())?;
+    }
+    Ok(())
+}
+
+#[test]
+fn the_tally_allows_half_a_step() {
+    assert!(tallied(&[("14256050", ""), ("S", "S S    14.2561 g")]).is_ok());
+    assert!(tallied(&[("14256050", ""), ("S", "S S    14.2560 g")]).is_ok());
+    assert!(tallied(&[("14256051", ""), ("S", "S S    14.2560 g")]).is_err());
+    assert!(tallied(&[("-50", ""), ("S", "S S    -0.0001 g")]).is_ok());
+    assert!(tallied(&[("S", "S S     0.0000 g")]).is_err());
+}
+
+#[test]
+fn the_tally_follows_zero_and_tare() {
+    assert!(tallied(&[("70", ""), ("Z", "Z A"), ("S", "S S     0.0000 g")]).is_ok());
+    assert!(tallied(&[("70", ""), ("Z", "Z +"), ("S", "S S     0.0000 g")]).is_err());
+    assert!(tallied(&[("10000040", ""), ("T", "T S    10.0000 g"), ("10000100", ""), ("S", "S S     0.0001 g")]).is_ok());
+    assert!(tallied(&[("10000040", ""), ("T", "T S    10.0000 g"), ("10000089", ""), ("S", "S S     0.0001 g")]).is_err());
+    assert!(tallied(&[("TA 1.5 g", "TA A     1.5000 g"), ("1500051", ""), ("S", "S S     0.0001 g")]).is_ok());
+    assert!(tallied(&[("TA 1.5 g", "TA A     1.5000 g"), ("1500048", ""), ("S", "S S     0.0001 g")]).is_err());
+    assert!(tallied(&[("70000", ""), ("T", "T S     0.0700 g"), ("@", "I4 A \"\""), ("S", "S S     0.0700 g")]).is_ok());
+    assert!(tallied(&[("70000", ""), ("T", "T S     0.0700 g"), ("@", "I4 A \"\""), ("S", "S S     0.0000 g")]).is_err());
+}
+
+// The reader and the writer.
+
+#[test]
+fn what_is_read_is_written_back() {
+    for (line, prints) in cases::captures() {
+        let read = Reader::default().read(line.as_bytes());
+        assert_eq!(read.is_none(), prints == "refused 4\r\n" || line.is_empty(), "{line:?}");
+        if let Some(answer) = read {
+            assert_eq!(line_of(&answer).as_deref(), Some(line.as_bytes()));
+        }
+    }
+}
+
+#[test]
+fn the_writer_refuses_what_has_no_line() {
+    let weight = |identification: &str, status, value, decimals| Answer::Weight {
+        identification: identification.to_string(),
+        status,
+        value,
+        decimals,
+        unit: Unit::Gram,
+    };
+    let refusal = |answer: Answer| {
+        let mut buffer = [7; 17];
+        let outcome = write(&answer, &mut buffer);
+        assert!(outcome.refusal == 0 || (buffer == [7; 17] && outcome.n == 0));
+        outcome.refusal
+    };
+    assert_eq!(refusal(weight("S", 'S', 1, 7)), 4);
+    assert_eq!(refusal(weight("S", 'A', 1, 4)), 4);
+    assert_eq!(refusal(weight("T", 'S', -1, 4)), 4);
+    assert_eq!(refusal(weight("S", 'S', 10_000_000_000, 0)), 4);
+    assert_eq!(refusal(weight("S", 'S', 1_000_000_000, 6)), 4);
+    assert_eq!(refusal(weight("S", 'S', 100_000_000, 6)), 3);
+    assert_eq!(refusal(Answer::Status { identification: "@".to_string(), status: 'I' }), 4);
+    assert_eq!(refusal(Answer::Status { identification: "TAC".to_string(), status: 'I' }), 0);
+    assert_eq!(refusal(Answer::Error { letters: "EI".to_string() }), 4);
+    assert_eq!(refusal(Answer::Listed { status: 'A', level: 1, name: "S".to_string() }), 4);
+    assert_eq!(refusal(Answer::Text { identification: "I4".to_string(), text: vec![b'x'; 21] }), 4);
+    assert_eq!(refusal(Answer::Text { identification: "I6".to_string(), text: vec![] }), 4);
+    assert_eq!(refusal(Answer::Text { identification: "I4".to_string(), text: b"VA-0001".to_vec() }), 0);
+}

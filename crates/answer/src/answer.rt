@@ -1,0 +1,50 @@
+// What an answer line says.
+use weight::LastPlaces;
+use weight::WeightUnit;
+
+// The letter or sign after the identification.
+pub enum Status {
+    A,
+    B,
+    S,
+    D,
+    I,
+    L,
+    Over,
+    Under,
+}
+
+// Identification (a command's place in the order of I0) and status.
+pub struct Head {
+    pub identification: u8,
+    pub status: Status,
+}
+
+// A printed weight.
+pub struct Number {
+    pub decimals: u8,
+    pub places: LastPlaces,
+    pub unit: WeightUnit,
+}
+
+// Syntax, transmission, logical: the lines ES, ET and EL.
+pub enum Error {
+    Syntax,
+    Transmission,
+    Logical,
+}
+
+pub enum Answer {
+    Nothing,
+    Plain(Head),
+    Weight(Head, Number),
+    Refused(Error),
+    // A text, which stands beside the answer: I2 to I5.
+    Text(u8),
+    // One line of I0, with A if it is the last.
+    Listed(bool, u8),
+    // All lines of I0.
+    CommandList,
+    // The one line of I1.
+    Versions,
+}

@@ -1,0 +1,150 @@
+// The commands, each known by its place in the order in which I0 lists them.
+ghost use mathlib.Core.Path.{_≡_};
+ghost use Prim.Native.Nat.{_≤_};
+ghost use lib.ListN.{length};
+ghost use Rattle.answer.specs.Commands.{nameOf, nameCells, levelOf, placeOf};
+ghost use Rattle.weight.specs.Ascii.{sameText};
+use weight::same_text;
+
+pub const I0: u8 = 0;
+
+pub const I1: u8 = 1;
+
+pub const I2: u8 = 2;
+
+pub const I3: u8 = 3;
+
+pub const I4: u8 = 4;
+
+pub const I5: u8 = 5;
+
+pub const S: u8 = 6;
+
+pub const SI: u8 = 7;
+
+pub const SIR: u8 = 8;
+
+pub const Z: u8 = 9;
+
+pub const ZI: u8 = 10;
+
+pub const RESET: u8 = 11;
+
+pub const D: u8 = 12;
+
+pub const DW: u8 = 13;
+
+pub const T: u8 = 14;
+
+pub const TA: u8 = 15;
+
+pub const TAC: u8 = 16;
+
+pub const TI: u8 = 17;
+// The place of what is no command: as many as there are.
+pub const NONE: u8 = 18;
+
+// A command's name: the first `len` cells, spaces after them.
+pub struct Name {
+    pub cells: [u8; 3],
+    pub len: usize,
+}
+
+// Past the end there is no name.
+fn name_cells(command: u8) -> [u8; 3]
+    ensures { λ r. ⌜ r ≡ nameCells command .cells ⌝ }
+{
+    match command {
+        I0 => *b"I0 ",
+        I1 => *b"I1 ",
+        I2 => *b"I2 ",
+        I3 => *b"I3 ",
+        I4 => *b"I4 ",
+        I5 => *b"I5 ",
+        S => *b"S  ",
+        SI => *b"SI ",
+        SIR => *b"SIR",
+        Z => *b"Z  ",
+        ZI => *b"ZI ",
+        RESET => *b"@  ",
+        D => *b"D  ",
+        DW => *b"DW ",
+        T => *b"T  ",
+        TA => *b"TA ",
+        TAC => *b"TAC",
+        TI => *b"TI ",
+        _ => *b"   ",
+    }
+}
+
+pub fn name_length(command: u8) -> usize
+    ensures { λ r. ⌜ r ≡ length (nameOf command) ⌝ }
+    ensures { λ r. ⌜ r ≤ 3 ⌝ }
+{
+    match command {
+        I0 => 2,
+        I1 => 2,
+        I2 => 2,
+        I3 => 2,
+        I4 => 2,
+        I5 => 2,
+        S => 1,
+        SI => 2,
+        SIR => 3,
+        Z => 1,
+        ZI => 2,
+        RESET => 1,
+        D => 1,
+        DW => 2,
+        T => 1,
+        TA => 2,
+        TAC => 3,
+        TI => 2,
+        _ => 0,
+    }
+}
+
+pub fn name_of(command: u8) -> Name
+    ensures { λ r. ⌜ r ≡ nameCells command ⌝ }
+{
+    Name {
+        cells: name_cells(command),
+        len: name_length(command),
+    }
+}
+
+pub fn level_of(command: u8) -> u8
+    ensures { λ r. ⌜ r ≡ levelOf command ⌝ }
+{
+    if command < D {
+        return 0;
+    }
+    1
+}
+
+// The whole word: one that goes on after the name is another word.
+fn is_name(word: &[u8], command: u8) -> bool
+    ensures { λ r. ⌜ r ≡ sameText (now (word .entry)) (nameOf command) ⌝ }
+{
+    let name = name_of(command);
+    let cells = name.cells;
+    let len = name.len;
+    if word.len() != len {
+        return false;
+    }
+    same_text(&word[..len], &cells[..len])
+}
+
+// The place of a name, and NONE for any other word.
+pub fn find_command(word: &[u8]) -> u8
+    ensures { λ r. ⌜ r ≡ placeOf (now (word .entry)) ⌝ }
+{
+    let mut command: u8 = 0;
+    while command < NONE {
+        if is_name(word, command) {
+            return command;
+        }
+        command += 1;
+    }
+    NONE
+}

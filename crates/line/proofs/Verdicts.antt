@@ -1,0 +1,491 @@
+-- What each verdict says of the line that was judged, and when the line is judged a reset.
+-- Assumes nothing.
+use mathlib.Core.Path.{_≡_, refl, sym, ap, _∙_}
+use mathlib.Core.Bool.{Bool, true, false, cond, not, _&&_, _||_, and-eq-true-iff}
+use mathlib.Core.List.{List, [], _∷_, _++_, map}
+use Prim.Native.Nat.{ℕ, _-_, _≤_, _<_}
+use native.Mathlib.Omega.{arith}
+use lib.Dec.{leb, ltb, eqb}
+use lib.IntN.{natAbs}
+use lib.ListN.{length, getD, take, drop, length-map, length-take, length-drop}
+use borrow.Author.Tests.{eqb-true, eqb-false, leb-true, leb-false, ltb-false, not-true, not-false}
+use Rattle.answer.specs.Commands.{names, nameOf, placeOf, placeIn}
+use Rattle.answer.proofs.Names.{found-name}
+use Rattle.line.specs.declared.receive.Line.{Line}
+use Rattle.line.specs.declared.judge.Verdict.{Verdict}
+use Rattle.line.specs.declared.judge.Verdict.the-variants.{Refused, Reset, Busy, Wrong, NoSample, Run, Preset, Show}
+use Rattle.line.specs.Judging.{
+  beforeSpace,
+  afterSpace,
+  hasSpace,
+  hasControl,
+  commandIn,
+  isD,
+  isTA,
+  isReset,
+  takesParameters,
+  needsSample,
+  isPrintable,
+  isShown,
+  betweenQuotes,
+  isQuoted,
+  typedIn,
+  presetOf,
+  amountIn,
+  isPreset,
+  isWrong,
+  ownRule,
+  firstRow,
+  judgement,
+}
+use Rattle.line.specs.Receiving.{contentOf}
+use Rattle.line.specs.Unbounded.{Marked, byteIn, anyFaulty, judgementOf}
+use Rattle.line.proofs.Kept.{Holds, holds-whole, holds-judged}
+use Rattle.weight.specs.declared.units.WeightUnit.{WeightUnit}
+use Rattle.weight.specs.declared.rounding.Micrograms.{Micrograms}
+use Rattle.weight.specs.declared.typed.Typed.{Typed}
+use Rattle.weight.specs.declared.typed.Typed.the-variants.{Amount, TooLarge, NotTyped}
+use Rattle.weight.specs.Ascii.{ascii, space, sameText}
+use Rattle.weight.specs.Units.{unitText}
+use Rattle.weight.specs.Typed.{readTyped}
+use Rattle.weight.proofs.Named.{same-is}
+
+-- ---- which row was reached
+
+never : {A : Type 0} → _≡_ {A = ℕ} 0 1 → A
+never e = absurd (omega arith)
+
+-- a verdict of row 8
+abbrev isOwn : Verdict → Bool
+isOwn (Refused e) = false
+isOwn Reset = false
+isOwn (Busy c) = false
+isOwn (Wrong c) = false
+isOwn (NoSample c) = false
+isOwn (Run c) = true
+isOwn (Preset m) = true
+isOwn (Show n) = true
+
+own-by : (d ta : Bool) (n c : ℕ) (m : Micrograms) → isOwn (cond d (Show n) (cond ta (Preset m) (Run c))) ≡ true
+own-by true ta n c m = refl
+own-by false true n c m = refl
+own-by false false n c m = refl
+
+own-is : (u : WeightUnit) (c : ℕ) (t : List ℕ) → isOwn (ownRule u c t) ≡ true
+unfolding ownRule
+own-is u c t = own-by (isD c) (isTA c && hasSpace t) (length (afterSpace t) - 2) c (amountIn (typedIn u (afterSpace t)))
+
+-- rows 1 to 3 do not apply
+record Known (faulty unknown extra : Bool) : Type 0 where
+  good : faulty ≡ false
+  named : unknown ≡ false
+  alone : extra ≡ false
+
+past : Known false false false
+past = record { good = refl; named = refl; alone = refl }
+
+row-4 : (a b x r w g n : Bool) (c : ℕ) (own : Verdict) → isOwn own ≡ true → firstRow a b x r w g n c own ≡ Reset → Known a b x × (r ≡ true)
+row-4 true b x r w g n c own o e = never (cc)
+row-4 false true x r w g n c own o e = never (cc)
+row-4 false false true r w g n c own o e = never (cc)
+row-4 false false false true w g n c own o e = (past, refl)
+row-4 false false false false true g n c own o e = never (cc)
+row-4 false false false false false true n c own o e = never (cc)
+row-4 false false false false false false true c own o e = never (cc)
+row-4 false false false false false false false c own o e =
+    let f : false ≡ true = sym (ap isOwn e) ∙ o in
+    never (cc)
+
+-- the row of v is the last
+record Last (faulty unknown extra reset waiting wrong missing : Bool) (own v : Verdict) : Type 0 where
+  known : Known faulty unknown extra
+  no-reset : reset ≡ false
+  free : waiting ≡ false
+  right : wrong ≡ false
+  sampled : missing ≡ false
+  own-rule : own ≡ v
+
+row-8 : (a b x r w g n : Bool) (c : ℕ) (own v : Verdict) → isOwn v ≡ true → firstRow a b x r w g n c own ≡ v → Last a b x r w g n own v
+row-8 true b x r w g n c own v o e = let f : false ≡ true = ap isOwn e ∙ o in never (cc)
+row-8 false true x r w g n c own v o e = let f : false ≡ true = ap isOwn e ∙ o in never (cc)
+row-8 false false true r w g n c own v o e = let f : false ≡ true = ap isOwn e ∙ o in never (cc)
+row-8 false false false true w g n c own v o e = let f : false ≡ true = ap isOwn e ∙ o in never (cc)
+row-8 false false false false true g n c own v o e = let f : false ≡ true = ap isOwn e ∙ o in never (cc)
+row-8 false false false false false true n c own v o e = let f : false ≡ true = ap isOwn e ∙ o in never (cc)
+row-8 false false false false false false true c own v o e = let f : false ≡ true = ap isOwn e ∙ o in never (cc)
+row-8 false false false false false false false c own v o e =
+    record { known = past; no-reset = refl; free = refl; right = refl; sampled = refl; own-rule = e }
+
+-- rows 5 to 7: the command that is not carried out, and the row's test
+abbrev isKept : Verdict → Bool
+isKept (Refused e) = false
+isKept Reset = false
+isKept (Busy c) = true
+isKept (Wrong c) = true
+isKept (NoSample c) = true
+isKept (Run c) = false
+isKept (Preset m) = false
+isKept (Show n) = false
+
+abbrev keptFrom : Verdict → ℕ
+keptFrom (Refused e) = 0
+keptFrom Reset = 0
+keptFrom (Busy c) = c
+keptFrom (Wrong c) = c
+keptFrom (NoSample c) = c
+keptFrom (Run c) = 0
+keptFrom (Preset m) = 0
+keptFrom (Show n) = 0
+
+abbrev keptBy : Verdict → Bool → Bool → Bool → Bool
+keptBy (Refused e) w g n = false
+keptBy Reset w g n = false
+keptBy (Busy c) w g n = w
+keptBy (Wrong c) w g n = g
+keptBy (NoSample c) w g n = n
+keptBy (Run c) w g n = false
+keptBy (Preset m) w g n = false
+keptBy (Show n′) w g n = false
+
+own-not-kept : (v : Verdict) → isOwn v ≡ true → isKept v ≡ false
+own-not-kept (Refused e) o = never (cc)
+own-not-kept Reset o = never (cc)
+own-not-kept (Busy c) o = never (cc)
+own-not-kept (Wrong c) o = never (cc)
+own-not-kept (NoSample c) o = never (cc)
+own-not-kept (Run c) o = refl
+own-not-kept (Preset m) o = refl
+own-not-kept (Show n) o = refl
+
+record Kept (faulty unknown extra reset waiting wrong missing : Bool) (c : ℕ) (v : Verdict) : Type 0 where
+  known : Known faulty unknown extra
+  no-reset : reset ≡ false
+  command : c ≡ keptFrom v
+  reason : keptBy v waiting wrong missing ≡ true
+
+rows-5-to-7 : (a b x r w g n : Bool) (c : ℕ) (own v : Verdict) → isOwn own ≡ true → isKept v ≡ true → firstRow a b x r w g n c own ≡ v
+    → Kept a b x r w g n c v
+rows-5-to-7 true b x r w g n c own v o k e = let f : false ≡ true = ap isKept e ∙ k in never (cc)
+rows-5-to-7 false true x r w g n c own v o k e = let f : false ≡ true = ap isKept e ∙ k in never (cc)
+rows-5-to-7 false false true r w g n c own v o k e = let f : false ≡ true = ap isKept e ∙ k in never (cc)
+rows-5-to-7 false false false true w g n c own v o k e = let f : false ≡ true = ap isKept e ∙ k in never (cc)
+rows-5-to-7 false false false false true g n c own v o k e =
+    rw (← e) (record { known = past; no-reset = refl; command = refl; reason = refl })
+rows-5-to-7 false false false false false true n c own v o k e =
+    rw (← e) (record { known = past; no-reset = refl; command = refl; reason = refl })
+rows-5-to-7 false false false false false false true c own v o k e =
+    rw (← e) (record { known = past; no-reset = refl; command = refl; reason = refl })
+rows-5-to-7 false false false false false false false c own v o k e =
+    let f : false ≡ true = sym (own-not-kept own o) ∙ ap isKept e ∙ k in
+    never (cc)
+
+-- ---- the line's parts
+
+neither : (a b : Bool) → (a || b) ≡ false → (a ≡ false) × (b ≡ false)
+neither true b e = never (cc)
+neither false b e = (refl, e)
+
+split-by : (here : Bool) (c : ℕ) (t : List ℕ) → eqb c space ≡ here → (hasSpace t ≡ true → t ≡ beforeSpace t ++ (space ∷ afterSpace t))
+    → (here || hasSpace t) ≡ true → c ∷ t ≡ cond here [] (c ∷ beforeSpace t) ++ (space ∷ cond here t (afterSpace t))
+split-by true c t e later h = ap (λ (x : ℕ). x ∷ t) (eqb-true c space e)
+split-by false c t e later h = ap (λ (s : List ℕ). c ∷ s) (later h)
+
+-- a text with a space is what stands before it, the space and what stands after it
+split : (t : List ℕ) → hasSpace t ≡ true → t ≡ beforeSpace t ++ (space ∷ afterSpace t)
+split [] h = never (cc)
+split (c ∷ t) h = split-by (eqb c space) c t refl (split t) h
+
+-- a text without one stands before it whole
+whole-by : (here : Bool) (c : ℕ) (t : List ℕ) → (hasSpace t ≡ false → beforeSpace t ≡ t)
+    → (here || hasSpace t) ≡ false → cond here [] (c ∷ beforeSpace t) ≡ c ∷ t
+whole-by true c t later h = never (cc)
+whole-by false c t later h = ap (λ (s : List ℕ). c ∷ s) (later h)
+
+whole : (t : List ℕ) → hasSpace t ≡ false → beforeSpace t ≡ t
+whole [] h = refl
+whole (c ∷ t) h = whole-by (eqb c space) c t (whole t) h
+
+-- the bytes before the first space are the command's name
+name-before : (t : List ℕ) → commandIn t < 18 → beforeSpace t ≡ nameOf (commandIn t)
+unfolding commandIn
+name-before t h = sym (found-name (beforeSpace t) h)
+
+-- a name alone
+name-alone : (t : List ℕ) → commandIn t < 18 → hasSpace t ≡ false → t ≡ nameOf (commandIn t)
+name-alone t h e = sym (whole t e) ∙ name-before t h
+
+-- a name and a parameter
+name-then : (t : List ℕ) → commandIn t < 18 → hasSpace t ≡ true → t ≡ nameOf (commandIn t) ++ (space ∷ afterSpace t)
+name-then t h e = split t e ∙ ap (λ (n : List ℕ). n ++ (space ∷ afterSpace t)) (name-before t h)
+
+-- ---- what callers use
+
+-- the finished line f has these bytes, all of them good
+pub record GoodLine (f : List Marked) (t : List ℕ) : Type 0 where
+  pub bytes : map byteIn f ≡ t
+  pub good : anyFaulty f ≡ false
+
+-- what follows the name and the space
+abbrev pub parameterIn : List Marked → List ℕ
+parameterIn f = afterSpace (map byteIn f)
+
+-- a line judged to the command c alone
+pub record RunLine (f : List Marked) (waiting sampled : Bool) (c : ℕ) : Type 0 where
+  pub line : GoodLine f (nameOf c)
+  pub a-name : c < 18
+  pub no-reset : c ≡ 11 → ⊥
+  pub no-show : c ≡ 12 → ⊥
+  pub free : waiting ≡ false
+  pub has-sample : (needsSample c && not sampled) ≡ false
+
+-- a line whose command c is not carried out
+pub record KeptLine (f : List Marked) (c : ℕ) : Type 0 where
+  pub good : anyFaulty f ≡ false
+  pub command : commandIn (map byteIn f) ≡ c
+  pub a-name : c < 18
+  pub no-reset : c ≡ 11 → ⊥
+
+-- a line judged to TA with the amount m
+pub record PresetLine (capacity : ℕ) (u : WeightUnit) (f : List Marked) (waiting : Bool) (m : Micrograms) : Type 0 where
+  pub line : GoodLine f (ascii "TA " ++ parameterIn f)
+  pub parts : parameterIn f ≡ beforeSpace (parameterIn f) ++ (space ∷ unitText u)
+  pub unit : afterSpace (parameterIn f) ≡ unitText u
+  pub number : readTyped u (beforeSpace (parameterIn f)) ≡ Amount m
+  pub within : natAbs (m .0) ≤ capacity
+  pub free : waiting ≡ false
+
+-- a line judged to D with a text of n bytes, from its fourth on
+pub record ShowLine (f : List Marked) (waiting : Bool) (n : ℕ) : Type 0 where
+  pub line : GoodLine f (ascii "D " ++ parameterIn f)
+  pub in-cells : length f ≤ 64
+  pub text : betweenQuotes (parameterIn f) ≡ take n (drop 3 (map byteIn f))
+  pub shown : isShown (betweenQuotes (parameterIn f)) ≡ true
+  pub count : length (betweenQuotes (parameterIn f)) ≡ n
+  pub short : n ≤ 20
+  pub free : waiting ≡ false
+
+-- a good line of at most 64 bytes that begins with a name
+record Begins (f : List Marked) : Type 0 where
+  good : anyFaulty f ≡ false
+  in-cells : length f ≤ 64
+  a-name : commandIn (map byteIn f) < 18
+  alone : (hasSpace (map byteIn f) && not (takesParameters (commandIn (map byteIn f)))) ≡ false
+
+begins : (f : List Marked)
+    → Known (anyFaulty f) (ltb 64 (length f) || hasControl (map byteIn f) || leb (length names) (commandIn (map byteIn f)))
+    (hasSpace (map byteIn f) && not (takesParameters (commandIn (map byteIn f)))) → Begins f
+begins f k =
+    let outer = neither (ltb 64 (length f) || hasControl (map byteIn f)) (leb (length names) (commandIn (map byteIn f))) (k .named) in
+    let inner = neither (ltb 64 (length f)) (hasControl (map byteIn f)) (outer .0) in
+    record {
+      good = k .good;
+      in-cells = ltb-false 64 (length f) (inner .0);
+      a-name = leb-false 18 (commandIn (map byteIn f)) (outer .1);
+      alone = k .alone;
+    }
+
+-- no parameter after a name that takes none
+no-space : (h takes : Bool) → takes ≡ false → (h && not takes) ≡ false → h ≡ false
+no-space true true e a = never (cc)
+no-space true false e a = never (cc)
+no-space false takes e a = refl
+
+nothing-after : (h d ta : Bool) → d ≡ false → (ta && h) ≡ false → (h && not (d || ta)) ≡ false → h ≡ false
+nothing-after true d true e a b = never (cc)
+nothing-after true d false e a b = never (cc)
+nothing-after false d ta e a b = refl
+
+-- what row 8 gave
+run-by : (d ta : Bool) (n c k : ℕ) (m : Micrograms) → cond d (Show n) (cond ta (Preset m) (Run c)) ≡ Run k → (d ≡ false) × (ta ≡ false) × (c ≡ k)
+run-by true ta n c k m e = never (cc)
+run-by false true n c k m e = never (cc)
+run-by false false n c k m e = (refl, refl, cc)
+
+preset-by : (d ta : Bool) (n c : ℕ) (m p : Micrograms) → cond d (Show n) (cond ta (Preset m) (Run c)) ≡ Preset p → (d ≡ false) × (ta ≡ true) × (m ≡ p)
+preset-by true ta n c m p e = never (cc)
+preset-by false true n c m p e = (refl, refl, cc)
+preset-by false false n c m p e = never (cc)
+
+show-by : (d ta : Bool) (n c k : ℕ) (m : Micrograms) → cond d (Show n) (cond ta (Preset m) (Run c)) ≡ Show k → (d ≡ true) × (n ≡ k)
+show-by true ta n c k m e = (refl, cc)
+show-by false true n c k m e = never (cc)
+show-by false false n c k m e = never (cc)
+
+-- wrong parameters are those of a name that takes some
+wrong-takes : (d ta x y : Bool) → (d && x || ta && y) ≡ true → (d || ta) ≡ true
+wrong-takes true ta x y e = refl
+wrong-takes false true x y e = refl
+wrong-takes false false x y e = never (cc)
+
+-- a text between quotes
+record Between (p : List ℕ) : Type 0 where
+  shown : isShown (betweenQuotes p) ≡ true
+  count : length (betweenQuotes p) ≡ length p - 2
+  short : length p - 2 ≤ 20
+
+shown-between : (p : List ℕ) → isQuoted p ≡ true → Between p
+unfolding isQuoted
+shown-between p e =
+    let parts = and-eq-true-iff (leb 2 (length p) && (eqb (getD p 0 0) 34 && eqb (getD p (length p - 1) 0) 34)) (isShown (betweenQuotes p)) .0 e in
+    let count : length (betweenQuotes p) ≡ length p - 2 = omega (arith, length-take (length p - 2) (drop 1 p), length-drop 1 p) in
+    let few : length (betweenQuotes p) ≤ 20 = leb-true (length (betweenQuotes p)) 20 (and-eq-true-iff (leb (length (betweenQuotes p)) 20) (isPrintable (betweenQuotes p)) .0 (parts .1) .0) in
+    record { shown = parts .1; count = count; short = omega arith }
+
+-- a number that the capacity allows
+amount-by : (capacity : ℕ) (n : Typed) → presetOf capacity n ≡ true → (n ≡ Amount (amountIn n)) × (natAbs (amountIn n .0) ≤ capacity)
+amount-by capacity (Amount m) e = (refl, leb-true (natAbs (m .0)) capacity e)
+amount-by capacity TooLarge e = never (cc)
+amount-by capacity NotTyped e = never (cc)
+
+module _ (capacity : ℕ) (u : WeightUnit) (f : List Marked) (waiting sampled : Bool) where
+  abbrev c : ℕ
+  c = commandIn (map byteIn f)
+
+  abbrev wrong : Bool
+  wrong = isWrong capacity u c (map byteIn f)
+
+  abbrev own : Verdict
+  own = ownRule u c (map byteIn f)
+
+  -- only the one good byte @ is judged a reset
+  pub reset-line : judgementOf capacity u f waiting sampled ≡ Reset → GoodLine f (ascii "@")
+  unfolding judgementOf
+  reset-line e =
+      let row = row-4 (anyFaulty f) (ltb 64 (length f) || hasControl (map byteIn f) || leb (length names) c)
+      (hasSpace (map byteIn f) && not (takesParameters c)) (isReset c) waiting wrong (needsSample c && not sampled) c own
+      (own-is u c (map byteIn f)) e in
+      let b : Begins f = begins f (row .0) in
+      let is : c ≡ 11 = eqb-true c 11 (row .1) in
+      let single : hasSpace (map byteIn f) ≡ false = no-space (hasSpace (map byteIn f)) (takesParameters c) (rw is) (b .alone) in
+      record { bytes = name-alone (map byteIn f) (b .a-name) single ∙ ap nameOf is; good = b .good }
+
+  -- and that byte always is
+  pub reset-judged : GoodLine f (ascii "@") → judgementOf capacity u f waiting sampled ≡ Reset
+  unfolding judgementOf commandIn placeOf placeIn
+  reset-judged g =
+      let one : length f ≡ 1 = sym (length-map f byteIn) ∙ ap length (g .bytes) in
+      rw (g .good, g .bytes, one)
+
+  last : {v : Verdict} → isOwn v ≡ true → judgementOf capacity u f waiting sampled ≡ v
+      → Last (anyFaulty f) (ltb 64 (length f) || hasControl (map byteIn f) || leb (length names) c) (hasSpace (map byteIn f) && not (takesParameters c))
+      (isReset c) waiting wrong (needsSample c && not sampled) own v
+  unfolding judgementOf
+  last {v} o e =
+      row-8 (anyFaulty f) (ltb 64 (length f) || hasControl (map byteIn f) || leb (length names) c)
+      (hasSpace (map byteIn f) && not (takesParameters c)) (isReset c) waiting wrong (needsSample c && not sampled) c own v o e
+
+  -- ---- the command alone
+
+  pub run-line : {k : ℕ} → judgementOf capacity u f waiting sampled ≡ Run k → RunLine f waiting sampled k
+  unfolding ownRule
+  run-line {k} e =
+      let row = last refl e in
+      let b : Begins f = begins f (row .known) in
+      let by = run-by (isD c) (isTA c && hasSpace (map byteIn f)) (length (parameterIn f) - 2) c k (amountIn (typedIn u (parameterIn f))) (row .own-rule) in
+      let single : hasSpace (map byteIn f) ≡ false =
+      nothing-after (hasSpace (map byteIn f)) (isD c) (isTA c) (by .0) (by .1) (b .alone) in
+      record {
+        line = record { bytes = name-alone (map byteIn f) (b .a-name) single ∙ ap nameOf (by .2); good = b .good };
+        a-name = rw (by .2) at (b .a-name);
+        no-reset = rw (by .2) at (eqb-false c 11 (row .no-reset));
+        no-show = rw (by .2) at (eqb-false c 12 (by .0));
+        free = row .free;
+        has-sample = rw (by .2) at (row .sampled);
+      }
+
+  -- ---- TA with a number
+
+  pub preset-line : {m : Micrograms} → judgementOf capacity u f waiting sampled ≡ Preset m → PresetLine capacity u f waiting m
+  unfolding ownRule isWrong isPreset
+  preset-line {m} e =
+      let row = last refl e in
+      let b : Begins f = begins f (row .known) in
+      let by = preset-by (isD c) (isTA c && hasSpace (map byteIn f)) (length (parameterIn f) - 2) c (amountIn (typedIn u (parameterIn f))) m (row .own-rule) in
+      let both = and-eq-true-iff (isTA c) (hasSpace (map byteIn f)) .0 (by .1) in
+      let is : c ≡ 15 = eqb-true c 15 (both .0) in
+      let right : isPreset capacity u (parameterIn f) ≡ true =
+      not-false (isPreset capacity u (parameterIn f)) (rw (is, both .1) at (row .right)) in
+      let parts = and-eq-true-iff (hasSpace (parameterIn f) && sameText (afterSpace (parameterIn f)) (unitText u)) (presetOf capacity (typedIn u (parameterIn f))) .0 right in
+      let halves = and-eq-true-iff (hasSpace (parameterIn f)) (sameText (afterSpace (parameterIn f)) (unitText u)) .0 (parts .0) in
+      let unit : afterSpace (parameterIn f) ≡ unitText u = same-is (afterSpace (parameterIn f)) (unitText u) (halves .1) in
+      let amount = amount-by capacity (typedIn u (parameterIn f)) (parts .1) in
+      record {
+        line = record { bytes = name-then (map byteIn f) (b .a-name) (both .1) ∙ ap (λ (x : ℕ). nameOf x ++ (space ∷ parameterIn f)) is; good = b .good };
+        parts = split (parameterIn f) (halves .0) ∙ ap (λ (x : List ℕ). beforeSpace (parameterIn f) ++ (space ∷ x)) unit;
+        unit = unit;
+        number = amount .0 ∙ ap Amount (by .2);
+        within = rw (by .2) at (amount .1);
+        free = row .free;
+      }
+
+  -- ---- D with a text
+
+  pub show-line : {n : ℕ} → judgementOf capacity u f waiting sampled ≡ Show n → ShowLine f waiting n
+  unfolding ownRule isWrong isQuoted
+  show-line {n} e =
+      let row = last refl e in
+      let b : Begins f = begins f (row .known) in
+      let by = show-by (isD c) (isTA c && hasSpace (map byteIn f)) (length (parameterIn f) - 2) c n (amountIn (typedIn u (parameterIn f))) (row .own-rule) in
+      let is : c ≡ 12 = eqb-true c 12 (by .0) in
+      let right : (hasSpace (map byteIn f) && isQuoted (parameterIn f)) ≡ true =
+      not-false (hasSpace (map byteIn f) && isQuoted (parameterIn f))
+      (neither (not (hasSpace (map byteIn f) && isQuoted (parameterIn f))) false (rw is at (row .right)) .0) in
+      let both = and-eq-true-iff (hasSpace (map byteIn f)) (isQuoted (parameterIn f)) .0 right in
+      let text : GoodLine f (ascii "D " ++ parameterIn f) =
+      record { bytes = name-then (map byteIn f) (b .a-name) (both .0) ∙ ap (λ (x : ℕ). nameOf x ++ (space ∷ parameterIn f)) is; good = b .good } in
+      let quotes = shown-between (parameterIn f) (both .1) in
+      record {
+        line = text;
+        in-cells = b .in-cells;
+        text = rw (text .bytes, sym (by .1));
+        shown = quotes .shown;
+        count = quotes .count ∙ by .1;
+        short = omega (arith, quotes .short, by .1);
+        free = row .free;
+      }
+
+  -- ---- a command that is not carried out
+
+  kept : {v : Verdict} → isKept v ≡ true → judgementOf capacity u f waiting sampled ≡ v
+      → KeptLine f (keptFrom v) × (keptBy v waiting wrong (needsSample c && not sampled) ≡ true)
+  unfolding judgementOf
+  kept {v} k e =
+      let row = rows-5-to-7 (anyFaulty f) (ltb 64 (length f) || hasControl (map byteIn f) || leb (length names) c)
+      (hasSpace (map byteIn f) && not (takesParameters c)) (isReset c) waiting wrong (needsSample c && not sampled) c own v
+      (own-is u c (map byteIn f)) k e in
+      let b : Begins f = begins f (row .known) in (
+        record {
+          good = b .good;
+          command = row .command;
+          a-name = rw (row .command) at (b .a-name);
+          no-reset = rw (row .command) at (eqb-false c 11 (row .no-reset));
+        },
+        row .reason,
+      )
+
+  pub busy-line : {k : ℕ} → judgementOf capacity u f waiting sampled ≡ Busy k → KeptLine f k × (waiting ≡ true)
+  busy-line e = kept refl e
+
+  pub wrong-line : {k : ℕ} → judgementOf capacity u f waiting sampled ≡ Wrong k → KeptLine f k × (takesParameters k ≡ true)
+  unfolding isWrong
+  wrong-line e =
+      let row = kept refl e in (
+        row .0,
+        rw (row .0 .command) at (wrong-takes (isD c) (isTA c) (not (hasSpace (map byteIn f) && isQuoted (parameterIn f)))
+            (hasSpace (map byteIn f) && not (isPreset capacity u (parameterIn f))) (row .1)),
+      )
+
+  pub no-sample-line : {k : ℕ} → judgementOf capacity u f waiting sampled ≡ NoSample k → KeptLine f k × (needsSample k ≡ true) × (sampled ≡ false)
+  no-sample-line e =
+      let row = kept refl e in
+      let both = and-eq-true-iff (needsSample c) (not sampled) .0 (row .1) in
+      (row .0, rw (row .0 .command) at (both .0), not-true sampled (both .1))
+
+-- the text that D shows, in the cells
+pub show-cells : (capacity : ℕ) (u : WeightUnit) (l : Line) (f : List Marked) (waiting sampled : Bool) {n : ℕ} → Holds l f
+    → judgement capacity u l waiting sampled ≡ Show n → (isShown (take n (drop 3 (contentOf l))) ≡ true) × (length (take n (drop 3 (contentOf l))) ≡ n)
+show-cells capacity u l f waiting sampled {n} h e =
+    let shows : ShowLine f waiting n = show-line capacity u f waiting sampled (sym (holds-judged capacity u waiting sampled l f h) ∙ e) in
+    let same : take n (drop 3 (contentOf l)) ≡ betweenQuotes (parameterIn f) =
+    ap (λ (t : List ℕ). take n (drop 3 t)) (holds-whole h (shows .in-cells)) ∙ sym (shows .text) in
+    (ap isShown same ∙ shows .shown, ap length same ∙ shows .count)

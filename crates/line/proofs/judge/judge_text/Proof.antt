@@ -1,0 +1,59 @@
+-- `line::judge::judge_text` meets its contract.
+-- Assumes nothing.
+use borrow.Author.Needs.{needs}
+use Rattle.line.proofs.Rows.{name-cells, row-1, row-2, row-3, row-4, row-5, rows-6-to-8}
+use Rattle.line.proofs.judge.judge_text.Statement.{statement}
+use Rattle.line.proofs.judge.judge_text.Tie as tie
+
+space-at-requires : tie.Need-space-at-requires
+space-at-requires c κs = search needs
+
+slice-aggregate-find-command : tie.Need-slice-aggregate-find-command
+slice-aggregate-find-command c = search (needs, name-cells)
+
+find-command-requires : tie.Need-find-command-requires
+find-command-requires c κs = search needs
+
+has-control-requires : tie.Need-has-control-requires
+has-control-requires c κs = search needs
+
+takes-parameters-requires : tie.Need-takes-parameters-requires
+takes-parameters-requires c κs = search needs
+
+returns : tie.Need-returns
+returns c = search (needs, row-1)
+
+returns-2 : tie.Need-returns-2
+returns-2 c = search (needs, row-2)
+
+returns-3 : tie.Need-returns-3
+returns-3 c = search (needs, row-3)
+
+returns-4 : tie.Need-returns-4
+returns-4 c = search (needs, row-4)
+
+returns-5 : tie.Need-returns-5
+returns-5 c = search (needs, row-5)
+
+last-rows-requires : tie.Need-last-rows-requires
+last-rows-requires c κs = search needs
+
+returns-6 : tie.Need-returns-6
+returns-6 c = search (needs, rows-6-to-8)
+
+pub judge-text-spec : {M : Type 1} → statement M
+judge-text-spec =
+    tie.close
+    (tie.spec
+    space-at-requires
+    slice-aggregate-find-command
+    find-command-requires
+    has-control-requires
+    takes-parameters-requires
+    returns
+    returns-2
+    returns-3
+    returns-4
+    returns-5
+    last-rows-requires
+    returns-6)

@@ -1,0 +1,14 @@
+// The line being received, and the judgement of a finished one.
+mod judge;
+mod parameter;
+mod receive;
+mod scan;
+
+pub use judge::Verdict;
+pub use judge::judge_line;
+pub use parameter::is_shown;
+pub use receive::Line;
+pub use receive::Received;
+pub use receive::cleared;
+pub use receive::empty_line;
+pub use receive::receive_byte;

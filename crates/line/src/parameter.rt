@@ -1,0 +1,106 @@
+// The parameters of D and TA.
+ghost use mathlib.Core.Path.{_≡_};
+ghost use mathlib.Core.Bool.{true};
+ghost use lib.IntN.{natAbs};
+ghost use lib.Signed.{nonNeg};
+ghost use Rattle.line.specs.Judging.{isShown, isQuoted, amountIn};
+ghost use Rattle.line.specs.Parts.{showRule, amountRule, presetRule};
+ghost use Rattle.weight.specs.Ascii.{sameText};
+ghost use Rattle.weight.specs.Units.{unitText};
+use crate::judge::Verdict;
+use crate::scan::is_printable;
+use crate::scan::space_at;
+use answer::D;
+use answer::TA;
+use weight::Micrograms;
+use weight::Typed;
+use weight::WeightUnit;
+use weight::read_typed;
+use weight::same_text;
+use weight::unit_text;
+
+const QUOTE: u8 = 34;
+
+const LONGEST_SHOWN: usize = 20;
+
+// A text that D takes.
+pub fn is_shown(text: &[u8]) -> bool
+    ensures { λ r. ⌜ r ≡ isShown (now (text .entry)) ⌝ }
+{
+    if LONGEST_SHOWN < text.len() {
+        return false;
+    }
+    is_printable(text)
+}
+
+// The same in quotes.
+fn is_quoted(text: &[u8]) -> bool
+    ensures { λ r. ⌜ r ≡ isQuoted (now (text .entry)) ⌝ }
+{
+    if text.len() < 2 {
+        return false;
+    }
+    let last = text.len() - 1;
+    let quotes = (text[0] == QUOTE) & (text[last] == QUOTE);
+    quotes & is_shown(&text[1..last])
+}
+
+// What D does with its parameter.
+pub fn show_rule(parameter: &[u8]) -> Verdict
+    ensures { λ r. ⌜ r ≡ showRule (now (parameter .entry)) ⌝ }
+{
+    if is_quoted(parameter) {
+        return Verdict::Show((parameter.len() - 2) as u8);
+    }
+    Verdict::Wrong(D)
+}
+
+fn is_unit(unit: WeightUnit, text: &[u8]) -> bool
+    ensures { λ r. ⌜ r ≡ sameText (now (text .entry)) (unitText unit) ⌝ }
+{
+    let name = unit_text(unit);
+    let cells = name.cells;
+    let len = name.len;
+    same_text(text, &cells[..len])
+}
+
+fn size_of(amount: Micrograms) -> u64
+    requires { ⌜ nonNeg (amount .0) ≡ true ⌝ }
+    ensures { λ r. ⌜ r ≡ natAbs (amount .0) ⌝ }
+{
+    amount.0 as u64
+}
+
+// A number as read, which is not below zero: not above the capacity.
+fn amount_rule(capacity: u32, typed: Typed) -> Verdict
+    requires { ⌜ nonNeg (amountIn typed .0) ≡ true ⌝ }
+    ensures { λ r. ⌜ r ≡ amountRule capacity typed ⌝ }
+{
+    match typed {
+        Typed::Amount(amount) => {
+            let most = capacity as u64;
+            if size_of(amount) <= most {
+                Verdict::Preset(amount)
+            } else {
+                Verdict::Wrong(TA)
+            }
+        }
+        Typed::TooLarge => Verdict::Wrong(TA),
+        Typed::NotTyped => Verdict::Wrong(TA),
+    }
+}
+
+// What TA does with its parameter: number, space, the profile's unit.
+pub fn preset_rule(capacity: u32, unit: WeightUnit, parameter: &[u8]) -> Verdict
+    ensures { λ r. ⌜ r ≡ presetRule capacity unit (now (parameter .entry)) ⌝ }
+{
+    let space = space_at(parameter);
+    if parameter.len() <= space {
+        return Verdict::Wrong(TA);
+    }
+    let start = space + 1;
+    if is_unit(unit, &parameter[start..]) {
+        return amount_rule(capacity, read_typed(unit, &parameter[..space]));
+    }
+    Verdict::Wrong(TA)
+}

@@ -1,0 +1,68 @@
+-- The text that goes with an answer, and what a call returns by the room for it.
+-- Assumes nothing.
+use mathlib.Core.Path.{_≡_, refl, sym, ap, _∙_}
+use mathlib.Core.Bool.{Bool, true, false, cond}
+use mathlib.Core.List.{List, []}
+use Prim.Native.Nat.{ℕ, _≤_}
+use borrow.Author.Tests.{ne-eqb, leb-true}
+use lib.Dec.{eqb, leb}
+use lib.ListN.{length}
+use Rattle.answer.specs.Lines.{lineOf, fitsRoom, emitted, laidIn}
+use Rattle.answer.specs.declared.answer.Answer.{Answer}
+use Rattle.answer.specs.declared.emit.Emitted.{Emitted}
+use Rattle.device.specs.declared.call.Called.{Called}
+use Rattle.device.specs.declared.call.Refusal.the-variants as refusals
+use Rattle.device.specs.declared.profile.Profile.{Profile}
+use Rattle.device.specs.declared.profile.Text20.{Text20}
+use Rattle.device.specs.declared.profile.Text40.{Text40}
+use Rattle.device.specs.declared.react.Reaction.{Reaction}
+use Rattle.device.specs.declared.state.State.{State}
+use Rattle.device.specs.Calls.{identityIn, answerBytes, delivered}
+use Rattle.line.specs.Judging.{isPrintable}
+use Rattle.weight.proofs.Allowed.{both-left}
+use Rattle.device.specs.Profiles.{identityText, textOf20, textOf40, textAllowed20, textAllowed40}
+
+module _ (p : Profile) (a : Answer) where
+  bytes-with : (t : List ℕ) → identityText p (identityIn a) ≡ t → answerBytes p a ≡ lineOf a t
+  unfolding answerBytes
+  bytes-with t e = rw e
+
+  -- by the command whose text goes with the answer
+  pub bytes-model : identityIn a ≡ 2 → answerBytes p a ≡ lineOf a (textOf40 (p .model))
+  bytes-model e = bytes-with (textOf40 (p .model)) (rw e)
+
+  pub bytes-software : identityIn a ≡ 3 → answerBytes p a ≡ lineOf a (textOf40 (p .software))
+  bytes-software e = bytes-with (textOf40 (p .software)) (rw e)
+
+  pub bytes-serial : identityIn a ≡ 4 → answerBytes p a ≡ lineOf a (textOf20 (p .serial))
+  bytes-serial e = bytes-with (textOf20 (p .serial)) (rw e)
+
+  pub bytes-identity : identityIn a ≡ 5 → answerBytes p a ≡ lineOf a (textOf20 (p .identity))
+  bytes-identity e = bytes-with (textOf20 (p .identity)) (rw e)
+
+  pub bytes-plain : (identityIn a ≡ 2 → ⊥) → (identityIn a ≡ 3 → ⊥) → (identityIn a ≡ 4 → ⊥) → (identityIn a ≡ 5 → ⊥)
+      → answerBytes p a ≡ lineOf a []
+  bytes-plain two three four five =
+      bytes-with [] (rw (ne-eqb (identityIn a) 2 two, ne-eqb (identityIn a) 3 three, ne-eqb (identityIn a) 4 four, ne-eqb (identityIn a) 5 five))
+
+module _ (p : Profile) (s : State) (r : Reaction) (room : List ℕ) where
+  -- there is room
+  pub delivers : emitted (answerBytes p (r .answer)) room .fits ≡ true
+      → delivered p s r room
+      ≡ record { called = record { refusal = refusals.None; state = r .state; count = emitted (answerBytes p (r .answer)) room .count }; buffer = laidIn (answerBytes p (r .answer)) room }
+  unfolding delivered emitted
+  delivers e = rw e
+
+  -- there is none
+  pub withholds : emitted (answerBytes p (r .answer)) room .fits ≡ false
+      → delivered p s r room
+      ≡ record { called = record { refusal = refusals.Room; state = s; count = 0 }; buffer = laidIn (answerBytes p (r .answer)) room }
+  unfolding delivered emitted laidIn
+  withholds e = rw e
+
+-- an allowed text is no longer than its cells
+pub short20 : (t : Text20) → textAllowed20 t ≡ true → t .len ≤ 20
+short20 t e = leb-true (t .len) 20 (both-left (leb (t .len) 20) (isPrintable (textOf20 t)) e)
+
+pub short40 : (t : Text40) → textAllowed40 t ≡ true → t .len ≤ 40
+short40 t e = leb-true (t .len) 40 (both-left (leb (t .len) 40) (isPrintable (textOf40 t)) e)

@@ -1,0 +1,106 @@
+use mathlib.Core.Path.{_≡_, sym, _∙_}
+use borrow.Author.Needs.{needs}
+use borrow.Author.Tests.{leb-true}
+use Rattle.device.proofs.Delivery.{bytes-model, bytes-software, bytes-serial, bytes-identity, bytes-plain}
+use Rattle.device.proofs.ProfileFacts.{allowed-profile}
+use Rattle.device.proofs.Delivery.{short20, short40}
+use Rattle.device.proofs.deliver.emit_due.Statement.{statement}
+use Rattle.device.proofs.deliver.emit_due.Tie as tie
+
+identity-in-requires : tie.Need-identity-in-requires
+identity-in-requires c κs = search needs
+
+emit-text40-requires : tie.Need-emit-text40-requires
+emit-text40-requires c κs =
+    let start = c .before .before .before .before .before in
+    short40 (start .args .profile .model) (allowed-profile (start .args .profile) (start .pre) .model)
+
+same-length : tie.Need-same-length
+same-length c = search needs
+
+returns : tie.Need-returns
+returns c =
+    let start = c .before .before .before .before .before .before .before .before in
+    let due = sym (c .before .before .before .before .before .before .identity-in .ensures) ∙ c .before .before .before .before .before .if1 .taken in
+    rw (bytes-model (start .args .profile) (start .args .answer) due) (c .before .before .emit-text40 .ensures)
+
+emit-text40-requires-2 : tie.Need-emit-text40-requires-2
+emit-text40-requires-2 c κs =
+    let start = c .before .before .before .before .before .before in
+    short40 (start .args .profile .software) (allowed-profile (start .args .profile) (start .pre) .software)
+
+same-length-2 : tie.Need-same-length-2
+same-length-2 c = search needs
+
+returns-2 : tie.Need-returns-2
+returns-2 c =
+    let start = c .before .before .before .before .before .before .before .before .before in
+    let due = sym (c .before .before .before .before .before .before .before .identity-in .ensures) ∙ c .before .before .before .before .before .if2 .taken in
+    rw (bytes-software (start .args .profile) (start .args .answer) due) (c .before .before .emit-text402 .ensures)
+
+emit-text20-requires : tie.Need-emit-text20-requires
+emit-text20-requires c κs =
+    let start = c .before .before .before .before .before .before .before in
+    short20 (start .args .profile .serial) (allowed-profile (start .args .profile) (start .pre) .serial)
+
+same-length-3 : tie.Need-same-length-3
+same-length-3 c = search needs
+
+returns-3 : tie.Need-returns-3
+returns-3 c =
+    let start = c .before .before .before .before .before .before .before .before .before .before in
+    let due = sym (c .before .before .before .before .before .before .before .before .identity-in .ensures) ∙ c .before .before .before .before .before .if3 .taken in
+    rw (bytes-serial (start .args .profile) (start .args .answer) due) (c .before .before .emit-text20 .ensures)
+
+emit-text20-requires-2 : tie.Need-emit-text20-requires-2
+emit-text20-requires-2 c κs =
+    let start = c .before .before .before .before .before .before .before .before in
+    short20 (start .args .profile .identity) (allowed-profile (start .args .profile) (start .pre) .identity)
+
+same-length-4 : tie.Need-same-length-4
+same-length-4 c = search needs
+
+returns-4 : tie.Need-returns-4
+returns-4 c =
+    let start = c .before .before .before .before .before .before .before .before .before .before .before in
+    let due = sym (c .before .before .before .before .before .before .before .before .before .identity-in .ensures) ∙ c .before .before .before .before .before .if4 .taken in
+    rw (bytes-identity (start .args .profile) (start .args .answer) due) (c .before .before .emit-text202 .ensures)
+
+slice-aggregate-emit-answer : tie.Need-slice-aggregate-emit-answer
+slice-aggregate-emit-answer c = search needs
+
+emit-answer-requires : tie.Need-emit-answer-requires
+emit-answer-requires c κs = search needs
+
+same-length-5 : tie.Need-same-length-5
+same-length-5 c = search needs
+
+returns-5 : tie.Need-returns-5
+returns-5 c =
+    let start = c .before .before .before .before .before .before .before .before .before .before .before in
+    let is = c .before .before .before .before .before .before .before .before .before .identity-in .ensures in
+    let tests = c .before .before .before .before .before in
+    rw (bytes-plain (start .args .profile) (start .args .answer) (λ e. tests .before .before .before .if1 .left (is ∙ e)) (λ e. tests .before .before .if2 .left (is ∙ e)) (λ e. tests .before .if3 .left (is ∙ e)) (λ e. tests .if4 .left (is ∙ e)))
+    (c .before .before .emit-answer .ensures)
+
+pub emit-due-spec : {M : Type 1} → statement M
+emit-due-spec =
+    tie.close
+    (tie.spec
+    identity-in-requires
+    emit-text40-requires
+    same-length
+    returns
+    emit-text40-requires-2
+    same-length-2
+    returns-2
+    emit-text20-requires
+    same-length-3
+    returns-3
+    emit-text20-requires-2
+    same-length-4
+    returns-4
+    slice-aggregate-emit-answer
+    emit-answer-requires
+    same-length-5
+    returns-5)

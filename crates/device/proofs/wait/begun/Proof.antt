@@ -1,0 +1,39 @@
+use borrow.Author.Needs.{needs}
+use Rattle.device.specs.Reactions.{begun}
+use Rattle.device.proofs.wait.begun.Statement.{statement}
+use Rattle.device.proofs.wait.begun.Tie as tie
+
+settled-requires : tie.Need-settled-requires
+settled-requires c κs = search needs
+
+measured-reaction-requires : tie.Need-measured-reaction-requires
+measured-reaction-requires c κs = search needs
+
+returns : tie.Need-returns
+unfolding begun
+returns c = rw (c .measured-reaction .ensures, c .before .settled .ensures, c .before .before .if1 .taken)
+
+waiting-for-requires : tie.Need-waiting-for-requires
+waiting-for-requires c κs = search needs
+
+with-waiting-requires : tie.Need-with-waiting-requires
+with-waiting-requires c κs = search needs
+
+answered-requires : tie.Need-answered-requires
+answered-requires c κs = search needs
+
+returns-2 : tie.Need-returns-2
+unfolding begun
+returns-2 c = rw (c .answered .ensures, c .before .with-waiting .ensures, c .before .before .waiting-for .ensures, c .before .before .before .if1 .left)
+
+pub begun-spec : {M : Type 1} → statement M
+begun-spec =
+    tie.close
+    (tie.spec
+    settled-requires
+    measured-reaction-requires
+    returns
+    waiting-for-requires
+    with-waiting-requires
+    answered-requires
+    returns-2)

@@ -1,0 +1,102 @@
+-- Document 01, "Refusal numbers": the three calls, each refusal in its case only and in this order.
+-- Assumes nothing.
+use Prim.Native.Nat.{ℕ}
+use mathlib.Core.Path.{_≡_}
+use mathlib.Core.Bool.{Bool, true, false, not}
+use mathlib.Core.List.{List, []}
+use lib.ListN.{length}
+use Rattle.answer.specs.declared.answer.Answer.{Answer}
+use Rattle.answer.specs.declared.answer.Answer.the-variants.{Nothing, Plain, Weight, Refused, Text, Listed, CommandList, Versions}
+use Rattle.answer.specs.Lines.{lineOf, fitsRoom, laidIn}
+use Rattle.device.specs.declared.call.Refusal.{Refusal}
+use Rattle.device.specs.declared.call.Refusal.the-variants as refusals
+use Rattle.device.specs.declared.call.Called.{Called}
+use Rattle.device.specs.declared.profile.Profile.{Profile}
+use Rattle.device.specs.declared.react.Reaction.{Reaction}
+use Rattle.device.specs.declared.state.State.{State}
+use Rattle.device.specs.declared.weighing.Load.{Load}
+use Rattle.device.specs.Profiles.{profileAllowed, identityText}
+use Rattle.device.specs.States.{stateAllowed, startState}
+use Rattle.device.specs.Reactions.{byteReaction, sampleReaction, reaction}
+
+-- the paper's number
+abbrev pub numberOfRefusal : Refusal → ℕ
+numberOfRefusal refusals.None = 0
+numberOfRefusal refusals.Profile = 1
+numberOfRefusal refusals.State = 2
+numberOfRefusal refusals.Room = 3
+
+-- the command whose text goes with an answer; 0, which has none, for every other
+abbrev pub identityIn : Answer → ℕ
+identityIn Nothing = 0
+identityIn (Plain h) = 0
+identityIn (Weight h n) = 0
+identityIn (Refused e) = 0
+identityIn (Text c) = c
+identityIn (Listed last c) = 0
+identityIn CommandList = 0
+identityIn Versions = 0
+
+-- the text that goes with an answer
+abbrev pub answerText : Profile → Answer → List ℕ
+answerText p a = identityText p (identityIn a)
+
+-- the bytes of an answer
+unfoldable pub answerBytes : Profile → Answer → List ℕ
+answerBytes p a = lineOf a (answerText p a)
+
+-- what a call returns, and what its buffer holds at the end
+pub record Outcome : Type 0 where
+  pub called : Called
+  pub buffer : List ℕ
+
+-- on a refusal: the given state, n = 0, buffer untouched
+abbrev pub refusedCall : Refusal → State → Called
+refusedCall r s = record { refusal = r; state = s; count = 0 }
+
+abbrev pub refused : Refusal → State → List ℕ → Outcome
+refused r s room = record { called = refusedCall r s; buffer = room }
+
+abbrev pub chosenOutcome : Bool → Outcome → Outcome → Outcome
+chosenOutcome true a b = a
+chosenOutcome false a b = b
+
+-- 3: buffer shorter than the answer due; else the first n bytes are the answer and the rest is as before
+unfoldable pub delivered : Profile → State → Reaction → List ℕ → Outcome
+delivered p s r room =
+    let bytes = answerBytes p (r .answer) in
+    chosenOutcome (fitsRoom bytes room)
+    (record { called = record { refusal = refusals.None; state = r .state; count = length bytes }; buffer = laidIn bytes room })
+    (refused refusals.Room s room)
+
+-- 1: profile refused, before anything else
+unfoldable pub ofProfile : Profile → State → List ℕ → Outcome → Outcome
+ofProfile p s room next = chosenOutcome (profileAllowed p) next (refused refusals.Profile s room)
+
+-- 2: state refused
+unfoldable pub ofState : Profile → State → List ℕ → Outcome → Outcome
+ofState p s room next = chosenOutcome (stateAllowed p s) next (refused refusals.State s room)
+
+-- power-on sends the I4 line; it reads no earlier state
+unfoldable pub powerOnOutcome : Profile → State → List ℕ → Outcome
+powerOnOutcome p s room = ofProfile p s room (delivered p s (reaction startState (Text 4)) room)
+
+unfoldable pub byteOutcome : Profile → State → ℕ → Bool → List ℕ → Outcome
+byteOutcome p s b bad room = ofProfile p s room (ofState p s room (delivered p s (byteReaction p s b bad) room))
+
+unfoldable pub sampleOutcome : Profile → State → Load → Bool → List ℕ → Outcome
+sampleOutcome p s load stable room = ofProfile p s room (ofState p s room (delivered p s (sampleReaction p s load stable) room))
+
+-- ---- what the contracts of the three calls say: the result and the whole buffer at exit, for every input
+
+pub record PowerOnCalled (p : Profile) (s : State) (room : List ℕ) (r : Called) (buffer : List ℕ) : Type 0 where
+  pub returned : r ≡ powerOnOutcome p s room .called
+  pub left : buffer ≡ powerOnOutcome p s room .buffer
+
+pub record ByteCalled (p : Profile) (s : State) (b : ℕ) (bad : Bool) (room : List ℕ) (r : Called) (buffer : List ℕ) : Type 0 where
+  pub returned : r ≡ byteOutcome p s b bad room .called
+  pub left : buffer ≡ byteOutcome p s b bad room .buffer
+
+pub record SampleCalled (p : Profile) (s : State) (load : Load) (stable : Bool) (room : List ℕ) (r : Called) (buffer : List ℕ) : Type 0 where
+  pub returned : r ≡ sampleOutcome p s load stable room .called
+  pub left : buffer ≡ sampleOutcome p s load stable room .buffer

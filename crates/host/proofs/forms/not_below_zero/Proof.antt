@@ -1,0 +1,12 @@
+use borrow.Author.Needs.{needs}
+use Rattle.host.proofs.Signs.{at-least-zero}
+use Rattle.host.proofs.forms.not_below_zero.Statement.{statement}
+use Rattle.host.proofs.forms.not_below_zero.Tie as tie
+use Rattle.host.proofs.forms.not_below_zero.Reads as reads
+use Rattle.host.proofs.forms.not_below_zero.Lts as lts
+
+returns : tie.Need-returns
+returns c = at-least-zero (c .before .before .args .places .0) (search needs)
+
+pub not-below-zero-spec : {M : Type 1} → statement M
+not-below-zero-spec = tie.close (tie.spec returns)

@@ -1,0 +1,106 @@
+-- Reading a line: the one answer that it could be is taken where it can be formed and its line is the line read; any other line is
+-- refused. What is right is `canForm` and `lineOf` alone; the laws say that no line of theirs is missed.
+-- Assumes nothing.
+use Prim.Native.Nat.{ℕ, _+_, _-_}
+use mathlib.Core.Bool.{Bool, true, false, cond, _&&_}
+use mathlib.Core.List.{List, []}
+use lib.Dec.{ltb, eqb}
+use lib.ListN.{length, getD, take, drop}
+use Rattle.answer.specs.Commands.{placeOf}
+use Rattle.answer.specs.Lines.{lineOf}
+use Rattle.answer.specs.declared.answer.Answer.{Answer}
+use Rattle.answer.specs.declared.answer.Answer.the-variants.{Nothing, Plain, Weight, Refused, Text, Listed, CommandList, Versions}
+use Rattle.answer.specs.declared.answer.Error.{Error}
+use Rattle.answer.specs.declared.answer.Error.the-variants.{Syntax, Transmission, Logical}
+use Rattle.answer.specs.declared.answer.Head.{Head}
+use Rattle.answer.specs.declared.answer.Status.{Status}
+use Rattle.answer.specs.declared.answer.Status.the-variants.{A, B, S, D, I, L, Over, Under}
+use Rattle.host.specs.declared.reader.Read.{Read}
+use Rattle.host.specs.declared.reader.Read.the-variants as reads
+use Rattle.host.specs.declared.reader.ReadText.{ReadText}
+use Rattle.host.specs.Forms.{canForm, isIdentity}
+use Rattle.line.specs.Judging.{beforeSpace, hasSpace}
+use Rattle.weight.specs.Ascii.{sameText}
+use Rattle.weight.specs.Reading.{readField}
+use Rattle.weight.specs.Units.{unitNamed}
+use Rattle.weight.specs.declared.reading.FieldRead.{FieldRead}
+use Rattle.weight.specs.declared.reading.FieldRead.the-variants.{Number, NoNumber}
+use Rattle.weight.specs.declared.units.UnitRead.{UnitRead}
+use Rattle.weight.specs.declared.units.UnitRead.the-variants.{Named, Unknown}
+
+-- ---- the answer that a line could be
+
+-- by its second letter
+abbrev pub errorGuess : ℕ → Answer
+errorGuess b = cond (eqb b 83) (Refused Syntax) (cond (eqb b 84) (Refused Transmission) (cond (eqb b 76) (Refused Logical) Nothing))
+
+-- the status of a byte; B, which only I0 has, for any other
+abbrev pub statusGuess : ℕ → Status
+statusGuess b =
+    cond (eqb b 65) A
+    (cond (eqb b 83) S
+    (cond (eqb b 68) D
+    (cond (eqb b 73) I
+    (cond (eqb b 76) L
+    (cond (eqb b 43) Over
+    (cond (eqb b 45) Under B))))))
+
+abbrev pub weightGuess : Head → FieldRead → UnitRead → Answer
+weightGuess h (Number d n) (Named u) = Weight h (record { decimals = d; places = n; unit = u })
+weightGuess h (Number d n) Unknown = Nothing
+weightGuess h NoNumber u = Nothing
+
+-- identification, space, status, CR LF
+abbrev pub plainLength : List ℕ → ℕ
+plainLength l = length (beforeSpace l) + 4
+
+abbrev pub headGuess : List ℕ → Head
+headGuess l = record { identification = placeOf (beforeSpace l); status = statusGuess (getD l (length (beforeSpace l) + 1) 0) }
+
+-- the ten characters and the unit of a weight answer
+abbrev pub fieldGuess : List ℕ → FieldRead
+fieldGuess l = readField (take 10 (drop (length (beforeSpace l) + 3) l))
+
+abbrev pub unitGuess : List ℕ → UnitRead
+unitGuess l = unitNamed (take (length l - (length (beforeSpace l) + 16)) (drop (length (beforeSpace l) + 14) l))
+
+-- a line of I0, whose name stands from the ninth byte up to the last quote
+abbrev pub listedGuess : List ℕ → Answer
+listedGuess l = Listed (eqb (getD l 3 0) 65) (placeOf (take (length l - 11) (drop 8 l)))
+
+-- a line with a space, by its name's place; I0, I1 and the texts answer by more than a status
+abbrev pub namedGuess : ℕ → List ℕ → Answer
+namedGuess c l =
+    cond (eqb (length l) (plainLength l)) (Plain (headGuess l))
+    (cond (eqb c 0) (listedGuess l)
+    (cond (eqb c 1) Versions
+    (cond (isIdentity c) (Text c) (weightGuess (headGuess l) (fieldGuess l) (unitGuess l)))))
+
+unfoldable pub guessed : List ℕ → Answer
+guessed l = cond (hasSpace l) (namedGuess (placeOf (beforeSpace l)) l) (errorGuess (getD l 1 0))
+
+-- ---- where its text is: between the quotes of I2 to I5
+
+abbrev pub textPlace : Answer → List ℕ → ReadText
+textPlace Nothing l = record { start = 0; len = 0 }
+textPlace (Plain h) l = record { start = 0; len = 0 }
+textPlace (Weight h n) l = record { start = 0; len = 0 }
+textPlace (Refused e) l = record { start = 0; len = 0 }
+textPlace (Text c) l = record { start = 6; len = length l - 9 }
+textPlace (Listed last c) l = record { start = 0; len = 0 }
+textPlace CommandList l = record { start = 0; len = 0 }
+textPlace Versions l = record { start = 0; len = 0 }
+
+abbrev pub textAt : ReadText → List ℕ → List ℕ
+textAt t l = take (t .len) (drop (t .start) l)
+
+-- ---- taken where it can be formed and its line is this one
+
+unfoldable pub confirms : Answer → List ℕ → List ℕ → Bool
+confirms a t l = canForm a t && sameText (lineOf a t) l
+
+unfoldable pub readLine : List ℕ → Read
+readLine l =
+    let a = guessed l in
+    let t = textPlace a l in
+    cond (confirms a (textAt t l) l) (reads.Line a t) reads.Refused

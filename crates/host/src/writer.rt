@@ -1,0 +1,43 @@
+// Writes the line of an answer.
+ghost use mathlib.Core.Path.{_≡_};
+ghost use Rattle.host.specs.Writes.{writtenLine, writtenBuffer};
+use crate::forms::can_form;
+use answer::Answer;
+use answer::emit_answer;
+
+// Document 01's refusal numbers 3 and 4; 0 is no refusal.
+pub enum Refusal {
+    None,
+    Room,
+    Form,
+}
+
+pub struct Written {
+    pub refusal: Refusal,
+    // How many bytes of the buffer are the line.
+    pub count: usize,
+}
+
+// The form is tested first: what cannot be formed has no length that the buffer could lack.
+pub fn write_line(answer: Answer, text: &[u8], out: &mut [u8]) -> Written
+    ensures { λ r. ⌜ r ≡ writtenLine answer (now (text .entry)) (now (out .entry)) ⌝ }
+    ensures { λ r. ⌜ now (out .exit) ≡ writtenBuffer answer (now (text .entry)) (now (out .entry)) ⌝ }
+{
+    if can_form(answer, text) {
+        let emitted = emit_answer(answer, text, out);
+        if emitted.fits {
+            return Written {
+                refusal: Refusal::None,
+                count: emitted.count,
+            };
+        }
+        return Written {
+            refusal: Refusal::Room,
+            count: 0,
+        };
+    }
+    Written {
+        refusal: Refusal::Form,
+        count: 0,
+    }
+}

@@ -1,0 +1,50 @@
+-- The induction over a list of calls, generic in what is followed along it: every theorem over histories is one step.
+-- Assumes nothing.
+use Prim.Native.Nat.{ℕ}
+use mathlib.Core.Path.{_≡_}
+use mathlib.Core.Bool.{Bool, true}
+use mathlib.Core.List.{List, [], _∷_}
+use Rattle.device.specs.declared.profile.Profile.{Profile}
+use Rattle.device.specs.declared.state.State.{State}
+use Rattle.device.specs.declared.weighing.Load.{Load}
+use Rattle.device.specs.declared.call.Called.{Called}
+use Rattle.device.specs.Calls.{ByteCalled, SampleCalled}
+use Rattle.history.specs.Claim.{Calls, done, byteCall, sampleCall, byteEvent, sampleEvent}
+use Rattle.history.specs.Tally.{Event}
+
+-- A call's event is followed from x: what is kept holds again of the state after it, and a list of events that is accepted from
+-- there is accepted from x with the event before it.
+pub record Followed (X : Type 0) (Inv : State → X → Type 0) (accepted : X → List Event → Bool) (s : State) (x : X) (e : Event) : Type 0 where
+  pub next : X
+  pub kept : Inv s next
+  pub joins : (es : List Event) → accepted next es ≡ true → accepted x (e ∷ es) ≡ true
+
+-- What is kept, and that the two calls keep it.
+pub record Step (p : Profile) (X : Type 0) (Inv : State → X → Type 0) (accepted : X → List Event → Bool) : Type 0 where
+  pub ends : (x : X) → accepted x [] ≡ true
+  pub byte
+      : (s : State) (x : X) (b : ℕ) (bad : Bool) (room : List ℕ) (r : Called) (buffer : List ℕ)
+      → Inv s x
+      → ByteCalled p s b bad room r buffer
+      → Followed X Inv accepted (r .state) x (byteEvent b bad r buffer)
+  pub sample
+      : (s : State) (x : X) (z : Load) (stable : Bool) (room : List ℕ) (r : Called) (buffer : List ℕ)
+      → Inv s x
+      → SampleCalled p s z stable room r buffer
+      → Followed X Inv accepted (r .state) x (sampleEvent z stable r buffer)
+
+-- every list of calls from a state that is followed is accepted
+pub along
+    : {p : Profile} {X : Type 0} {Inv : State → X → Type 0} {accepted : X → List Event → Bool} {s : State} {es : List Event} {s′ : State}
+    → Step p X Inv accepted
+    → (x : X)
+    → Inv s x
+    → Calls p s es s′
+    → accepted x es ≡ true
+along step x i done = step .ends x
+along {s = s} step x i (byteCall {b = b} {bad = bad} {room = room} {r = r} {buffer = buffer} {es = es} call calls) =
+    let f = step .byte s x b bad room r buffer i call in
+    f .joins es (along step (f .next) (f .kept) calls)
+along {s = s} step x i (sampleCall {z = z} {stable = stable} {room = room} {r = r} {buffer = buffer} {es = es} call calls) =
+    let f = step .sample s x z stable room r buffer i call in
+    f .joins es (along step (f .next) (f .kept) calls)

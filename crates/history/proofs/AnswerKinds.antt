@@ -1,0 +1,202 @@
+-- What kind of answer the tally sees in the bytes of each answer that a reaction gives. After these laws no proof reads a byte's
+-- place in a head.
+-- Assumes nothing.
+use Prim.Native.Nat.{ℕ, zero, suc}
+use mathlib.Core.Path.{_≡_, refl}
+use mathlib.Core.Bool.{Bool, true, false, cond, not, _&&_, false≢true}
+use mathlib.Core.List.{List, [], _∷_, _++_}
+use native.Mathlib.Omega.{arith}
+use borrow.Author.Tests.{leb-true}
+use lib.Dec.{leb}
+use lib.ListN.{getD}
+use Rattle.answer.specs.declared.answer.Answer.the-variants.{Nothing, Plain, Weight, Refused, Text, CommandList, Versions}
+use Rattle.answer.specs.declared.answer.Error.{Error}
+use Rattle.answer.specs.declared.answer.Error.the-variants.{Syntax, Transmission, Logical}
+use Rattle.answer.specs.declared.answer.Number.{Number}
+use Rattle.answer.specs.declared.answer.Status.{Status}
+use Rattle.answer.specs.declared.answer.Status.the-variants.{A, B, S, D, I, L, Over, Under}
+use Rattle.answer.specs.Commands.{names}
+use Rattle.answer.specs.Lines.{lineEnd, statusText, headText, listedLine, listedFrom, lineOf}
+use Rattle.device.specs.declared.profile.Profile.{Profile}
+use Rattle.device.specs.Weighings.{headOf, placeS, placeZ, placeZI, placeD, placeDW, placeT, placeTA, placeTAC, placeTI}
+use Rattle.device.specs.Calls.{answerBytes}
+use Rattle.weight.specs.Ascii.{ascii}
+use Rattle.weight.proofs.Allowed.{both-left, both-right}
+use Rattle.history.specs.Tally.{grantsZero, grantsTare, grantsClear, tellsTare, tellsNet}
+
+-- what the five tests of the tally find in a line
+pub record Tests (zero tare clear told net : Bool) (l : List ℕ) : Type 0 where
+  pub zero-is : grantsZero l ≡ zero
+  pub tare-is : grantsTare l ≡ tare
+  pub clear-is : grantsClear l ≡ clear
+  pub told-is : tellsTare l ≡ told
+  pub net-is : tellsNet l ≡ net
+
+-- a line that grants and weighs nothing
+abbrev pub Silent : List ℕ → Type 0
+Silent l = Tests false false false false false l
+
+-- Z A, ZI S, ZI D
+abbrev pub Zeroes : List ℕ → Type 0
+Zeroes l = Tests true false false false false l
+
+-- T S, TI S, TI D
+abbrev pub Tares : List ℕ → Type 0
+Tares l = Tests false true false false false l
+
+-- TAC A
+abbrev pub Clears : List ℕ → Type 0
+Clears l = Tests false false true false false l
+
+-- TA A
+abbrev pub Tells : List ℕ → Type 0
+Tells l = Tests false false false true false l
+
+-- S S, S D
+abbrev pub Weighs : List ℕ → Type 0
+Weighs l = Tests false false false false true l
+
+-- the tests of a line whose head is written out compute
+computed : (l : List ℕ) → Tests (grantsZero l) (grantsTare l) (grantsClear l) (tellsTare l) (tellsNet l) l
+computed l = record { zero-is = refl; tare-is = refl; clear-is = refl; told-is = refl; net-is = refl }
+
+-- ---- one test of every name at once
+
+-- the five tests in one
+abbrev isSilent : List ℕ → Bool
+isSilent l = not (grantsZero l) && not (grantsTare l) && not (grantsClear l) && not (tellsTare l) && not (tellsNet l)
+
+-- five tests that one test denies
+silent-by : (z t c a n : Bool) → (not z && not t && not c && not a && not n) ≡ true → (z ≡ false) × (t ≡ false) × (c ≡ false) × (a ≡ false) × (n ≡ false)
+silent-by false false false false false e = (refl, refl, refl, refl, refl)
+silent-by true t c a n e = absurd (false≢true e)
+silent-by false true c a n e = absurd (false≢true e)
+silent-by false false true a n e = absurd (false≢true e)
+silent-by false false false true n e = absurd (false≢true e)
+silent-by false false false false true e = absurd (false≢true e)
+
+-- so the one test is enough
+silent-is : (l : List ℕ) → isSilent l ≡ true → Silent l
+silent-is l e =
+    let h = silent-by (grantsZero l) (grantsTare l) (grantsClear l) (tellsTare l) (tellsNet l) e in
+    record { zero-is = h .0; tare-is = h .1; clear-is = h .2; told-is = h .3; net-is = h .4 }
+
+-- a test of every name, and of no name
+abbrev everyName : (List ℕ → Bool) → List (List ℕ) → Bool
+everyName f [] = f []
+everyName f (n ∷ ns) = f n && everyName f ns
+
+-- it is passed at every place, past the end too
+at-name : (f : List ℕ → Bool) (ns : List (List ℕ)) (c : ℕ) → everyName f ns ≡ true → f (getD ns c []) ≡ true
+at-name f [] c e = e
+at-name f (n ∷ ns) zero e = both-left (f n) (everyName f ns) e
+at-name f (n ∷ ns) (suc c) e = at-name f ns c (both-right (f n) (everyName f ns) e)
+
+-- ---- the answers that grant and weigh nothing
+
+-- I, L, + and -
+abbrev pub isDenial : Status → Bool
+isDenial A = false
+isDenial B = false
+isDenial S = false
+isDenial D = false
+isDenial I = true
+isDenial L = true
+isDenial Over = true
+isDenial Under = true
+
+-- a name with one of these
+abbrev isDenied : Status → List ℕ → Bool
+isDenied s n = isSilent (n ++ ascii " " ++ statusText s ++ lineEnd)
+
+module _ (p : Profile) where
+  -- no answer
+  pub nothing-silent : Silent (answerBytes p Nothing)
+  unfolding answerBytes lineOf
+  nothing-silent = computed _
+
+  -- ES, ET, EL
+  pub refused-silent : (e : Error) → Silent (answerBytes p (Refused e))
+  unfolding answerBytes lineOf
+  refused-silent Syntax = computed _
+  refused-silent Transmission = computed _
+  refused-silent Logical = computed _
+
+  -- I0
+  pub list-silent : Silent (answerBytes p CommandList)
+  unfolding answerBytes lineOf listedFrom listedLine
+  list-silent = computed _
+
+  -- I1
+  pub versions-silent : Silent (answerBytes p Versions)
+  unfolding answerBytes lineOf
+  versions-silent = computed _
+
+  -- D A
+  pub shown-silent : Silent (answerBytes p (Plain (headOf placeD A)))
+  unfolding answerBytes lineOf headText
+  shown-silent = computed _
+
+  -- DW A
+  pub weight-shown-silent : Silent (answerBytes p (Plain (headOf placeDW A)))
+  unfolding answerBytes lineOf headText
+  weight-shown-silent = computed _
+
+  -- TAC A
+  pub cleared-clears : Clears (answerBytes p (Plain (headOf placeTAC A)))
+  unfolding answerBytes lineOf headText
+  cleared-clears = computed _
+
+  -- any identification with I, L, + or -
+  pub denied-silent : (c : ℕ) (s : Status) → isDenial s ≡ true → Silent (answerBytes p (Plain (headOf c s)))
+  unfolding answerBytes lineOf headText
+  denied-silent c A e = absurd (false≢true e)
+  denied-silent c B e = absurd (false≢true e)
+  denied-silent c S e = absurd (false≢true e)
+  denied-silent c D e = absurd (false≢true e)
+  denied-silent c I e = silent-is _ (at-name (isDenied I) names c refl)
+  denied-silent c L e = silent-is _ (at-name (isDenied L) names c refl)
+  denied-silent c Over e = silent-is _ (at-name (isDenied Over) names c refl)
+  denied-silent c Under e = silent-is _ (at-name (isDenied Under) names c refl)
+
+  -- I2 to I5, and I0 and I1 with them
+  pub text-silent : (c : ℕ) → leb c 5 ≡ true → Silent (answerBytes p (Text c))
+  unfolding answerBytes lineOf
+  text-silent zero e = computed _
+  text-silent (suc zero) e = computed _
+  text-silent (suc (suc zero)) e = computed _
+  text-silent (suc (suc (suc zero))) e = computed _
+  text-silent (suc (suc (suc (suc zero)))) e = computed _
+  text-silent (suc (suc (suc (suc (suc zero))))) e = computed _
+  text-silent (suc (suc (suc (suc (suc (suc c)))))) e = absurd (omega (arith, leb-true (suc (suc (suc (suc (suc (suc c)))))) 5 e))
+
+  -- ---- zeroes: Z A; ZI S, ZI D
+
+  pub zeroed-zeroes : Zeroes (answerBytes p (Plain (headOf placeZ A)))
+  unfolding answerBytes lineOf headText
+  zeroed-zeroes = computed _
+
+  pub zeroed-now-zeroes : (stable : Bool) → Zeroes (answerBytes p (Plain (headOf placeZI (cond stable S D))))
+  unfolding answerBytes lineOf headText
+  zeroed-now-zeroes true = computed _
+  zeroed-now-zeroes false = computed _
+
+  -- ---- weights: S S, S D; TI S, TI D; T S; TA A
+
+  pub weighed-weighs : (stable : Bool) (n : Number) → Weighs (answerBytes p (Weight (headOf placeS (cond stable S D)) n))
+  unfolding answerBytes lineOf headText
+  weighed-weighs true n = computed _
+  weighed-weighs false n = computed _
+
+  pub tared-now-tares : (stable : Bool) (n : Number) → Tares (answerBytes p (Weight (headOf placeTI (cond stable S D)) n))
+  unfolding answerBytes lineOf headText
+  tared-now-tares true n = computed _
+  tared-now-tares false n = computed _
+
+  pub tared-tares : (n : Number) → Tares (answerBytes p (Weight (headOf placeT S) n))
+  unfolding answerBytes lineOf headText
+  tared-tares n = computed _
+
+  pub told-tells : (n : Number) → Tells (answerBytes p (Weight (headOf placeTA A) n))
+  unfolding answerBytes lineOf headText
+  told-tells n = computed _

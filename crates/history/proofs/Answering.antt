@@ -1,0 +1,221 @@
+-- One law for each kind of answer: the tally accepts it, and follows the weighing that the device goes on with. Used both where
+-- a line ends and where a sample ends a wait.
+-- Assumes nothing.
+use Prim.Native.Nat.{ℕ}
+use mathlib.Core.Path.{_≡_, refl}
+use mathlib.Core.Bool.{Bool, true, false, _||_}
+use mathlib.Core.List.{List}
+use lib.IntN.{ℤ, pos, negℤ}
+use lib.Signed.{ltZ}
+use Rattle.answer.specs.declared.answer.Answer.the-variants.{Plain, Weight}
+use Rattle.answer.specs.declared.answer.Status.{Status}
+use Rattle.answer.specs.declared.answer.Status.the-variants.{A, Over, Under}
+use Rattle.device.specs.declared.profile.Profile.{Profile}
+use Rattle.device.specs.declared.weighing.Weighing.{Weighing}
+use Rattle.device.specs.Weighings.{placeS, placeTAC, headOf, stability, grossOf, netOf, numberOf, inLimits, chosenWeighing, weighed, zeroed, tared, withZero, withTare, tareAnswer}
+use Rattle.device.specs.Calls.{answerBytes}
+use Rattle.device.specs.Profiles.{profileAllowed}
+use Rattle.weight.specs.Ascii.{ascii, sameText}
+use Rattle.weight.specs.Reading.{isDecimal}
+use Rattle.weight.specs.Rounding.{exactFemtograms, Near}
+use Rattle.weight.specs.Printing.{printable}
+use Rattle.weight.proofs.Nearness.{near-refl}
+use Rattle.history.specs.Tally.{Tally, Input, taken, ends, endedText, typedText, typedTare, afterReset, tallied, holds}
+use Rattle.history.proofs.AnswerKinds.{Silent, Zeroes, Tares, Weighs, denied-silent, weighed-weighs, cleared-clears, told-tells}
+use Rattle.history.proofs.DueWeights.{TareInRange, resolution-allowed, net-printable, gross-printable, tare-printable}
+use Rattle.history.proofs.Following.{Follows, is-loaded, latest-is, gross-is, net-near, tare-near}
+use Rattle.history.proofs.Tallying.{after-silent, after-zeroes, after-tares, after-clears, after-typed, after-told, after-weighs, silent-holds, zeroes-holds, clears-holds, weighs-holds, tares-holds, told-holds, typed-holds}
+use Rattle.history.proofs.WeightLines.{Shows, weighed-shows, told-shows}
+
+-- the tally accepts the answer l to the input i, and follows the weighing w after it
+pub record Answered (p : Profile) (t : Tally) (i : Input) (w : Weighing) (l : List ℕ) : Type 0 where
+  pub accepted : holds p t i l ≡ true
+  pub follows : Follows w (tallied p t i l)
+
+-- an answer that grants and weighs nothing
+pub answered-silent : (p : Profile) (t : Tally) (i : Input) (w : Weighing) (l : List ℕ) → Follows w (afterReset t i (taken t i)) → Silent l → Answered p t i w l
+answered-silent p t i w l f k = record { accepted = silent-holds p t i l k; follows = rw (after-silent p t i l k) f }
+
+-- femtograms of no tare
+pub zero-exact : exactFemtograms (pos 0) ≡ pos 0
+unfolding exactFemtograms
+zero-exact = refl
+
+-- the input ended no line that is the one good byte @
+module _ (p : Profile) (t : Tally) (i : Input) (w : Weighing) (calm : afterReset t i (taken t i) ≡ taken t i) (f : Follows w (taken t i)) where
+  -- an answer that grants and weighs nothing
+  pub answered-quietly : (l : List ℕ) → Silent l → Answered p t i w l
+  answered-quietly l k = answered-silent p t i w l (rw calm f) k
+
+  -- ---- Z, ZI
+
+  zero-granted : (l : List ℕ) → Zeroes l → w .sampled ≡ true → Answered p t i (withZero w (w .load .0)) l
+  zero-granted l k sampled =
+      record {
+        accepted = zeroes-holds p t i l k (is-loaded w (taken t i) f sampled);
+        follows =
+            rw (after-zeroes p t i l k, calm)
+            (record { latest = f .latest; zero = latest-is w (taken t i) f sampled; tare = rw zero-exact (near-refl 0 (pos 0)) });
+      }
+
+  -- by the two tests of Z
+  zeroed-by
+      : (over under : Bool) (c : ℕ) (granted : Status)
+      → Zeroes (answerBytes p (Plain (headOf c granted)))
+      → w .sampled ≡ true
+      → Answered p t i (chosenWeighing (over || under) w (withZero w (w .load .0))) (answerBytes p (inLimits c over under (Plain (headOf c granted))))
+  zeroed-by true under c granted k sampled = answered-quietly _ (denied-silent p c Over refl)
+  zeroed-by false true c granted k sampled = answered-quietly _ (denied-silent p c Under refl)
+  zeroed-by false false c granted k sampled = zero-granted _ k sampled
+
+  pub answered-zeroed
+      : (c : ℕ) (granted : Status)
+      → Zeroes (answerBytes p (Plain (headOf c granted)))
+      → w .sampled ≡ true
+      → Answered p t i (zeroed p w c granted .weighing) (answerBytes p (zeroed p w c granted .answer))
+  unfolding zeroed
+  answered-zeroed c granted k sampled =
+      zeroed-by (ltZ (pos (p .zeroing)) (w .load .0)) (ltZ (w .load .0) (negℤ (pos (p .zeroing)))) c granted k sampled
+
+  -- ---- TAC
+
+  pub answered-cleared : Answered p t i (withTare w (pos 0)) (answerBytes p (Plain (headOf placeTAC A)))
+  answered-cleared =
+      record {
+        accepted = clears-holds p t i _ (cleared-clears p);
+        follows =
+            rw (after-clears p t i _ (cleared-clears p), calm)
+            (record { latest = f .latest; zero = f .zero; tare = rw zero-exact (near-refl 0 (pos 0)) });
+      }
+
+  -- ---- weights
+
+  module _ (allowed : profileAllowed p ≡ true) where
+    -- a net that is printed
+    net-told
+        : (l : List ℕ)
+        → Weighs l
+        → Shows p (netOf w) l
+        → w .sampled ≡ true
+        → Answered p t i w l
+    net-told l k s sampled =
+        record {
+          accepted =
+              weighs-holds p t i l (netOf w) s
+              (rw (after-weighs p t i l k, calm, k .net-is) (net-near p (resolution-allowed p allowed) w (taken t i) f sampled))
+              k
+              (is-loaded w (taken t i) f sampled);
+          follows = rw (after-weighs p t i l k, calm) f;
+        }
+
+    -- by the two tests of S
+    weighed-by
+        : (over under : Bool)
+        → ltZ (pos (p .capacity)) (grossOf w) ≡ over
+        → ltZ (grossOf w) (negℤ (pos (p .underload))) ≡ under
+        → TareInRange p (w .tare .0)
+        → w .sampled ≡ true
+        → Answered p t i w (answerBytes p (inLimits placeS over under (Weight (headOf placeS (stability w)) (numberOf p (netOf w)))))
+    weighed-by true under o u range sampled = answered-quietly _ (denied-silent p placeS Over refl)
+    weighed-by false true o u range sampled = answered-quietly _ (denied-silent p placeS Under refl)
+    weighed-by false false o u range sampled =
+        net-told _ (weighed-weighs p (w .stable) (numberOf p (netOf w)))
+        (weighed-shows p (netOf w) (net-printable p allowed (grossOf w) (w .tare .0) o u range) (w .stable))
+        sampled
+
+    -- S, SI, SIR
+    pub answered-weighed
+        : TareInRange p (w .tare .0)
+        → w .sampled ≡ true
+        → Answered p t i w (answerBytes p (weighed p w))
+    unfolding weighed
+    answered-weighed range sampled =
+        weighed-by (ltZ (pos (p .capacity)) (grossOf w)) (ltZ (grossOf w) (negℤ (pos (p .underload)))) refl refl range sampled
+
+    -- the tare becomes gross
+    tare-followed : (l : List ℕ) → Tares l → w .sampled ≡ true → Follows (withTare w (grossOf w)) (tallied p t i l)
+    tare-followed l k sampled =
+        rw (after-tares p t i l k, calm)
+        (record { latest = f .latest; zero = f .zero; tare = rw (gross-is w (taken t i) f sampled) (near-refl 0 (exactFemtograms (grossOf w))) })
+
+    tare-granted : (l : List ℕ) → Tares l → Shows p (grossOf w) l → w .sampled ≡ true → Answered p t i (withTare w (grossOf w)) l
+    tare-granted l k s sampled =
+        record {
+          accepted =
+              tares-holds p t i l (grossOf w) s
+              (rw (k .net-is) (tare-near p (resolution-allowed p allowed) (withTare w (grossOf w)) (tallied p t i l) (tare-followed l k sampled)))
+              k
+              (is-loaded w (taken t i) f sampled);
+          follows = tare-followed l k sampled;
+        }
+
+    -- by the two tests of T
+    tared-by
+        : (over under : Bool) (c : ℕ)
+        → ltZ (pos (p .capacity)) (grossOf w) ≡ over
+        → ltZ (grossOf w) (pos 0) ≡ under
+        → Tares (answerBytes p (Weight (headOf c (stability w)) (numberOf p (grossOf w))))
+        → (printable (p .resolution) (grossOf w) ≡ true → Shows p (grossOf w) (answerBytes p (Weight (headOf c (stability w)) (numberOf p (grossOf w)))))
+        → w .sampled ≡ true
+        → Answered p t i (chosenWeighing (over || under) w (withTare w (grossOf w)))
+        (answerBytes p (inLimits c over under (Weight (headOf c (stability w)) (numberOf p (grossOf w)))))
+    tared-by true under c o u k s sampled = answered-quietly _ (denied-silent p c Over refl)
+    tared-by false true c o u k s sampled = answered-quietly _ (denied-silent p c Under refl)
+    tared-by false false c o u k s sampled = tare-granted _ k (s (gross-printable p allowed (grossOf w) o u)) sampled
+
+    -- T, TI
+    pub answered-tared
+        : (c : ℕ)
+        → Tares (answerBytes p (Weight (headOf c (stability w)) (numberOf p (grossOf w))))
+        → (printable (p .resolution) (grossOf w) ≡ true → Shows p (grossOf w) (answerBytes p (Weight (headOf c (stability w)) (numberOf p (grossOf w)))))
+        → w .sampled ≡ true
+        → Answered p t i (tared p w c .weighing) (answerBytes p (tared p w c .answer))
+    unfolding tared
+    answered-tared c k s sampled = tared-by (ltZ (pos (p .capacity)) (grossOf w)) (ltZ (grossOf w) (pos 0)) c refl refl k s sampled
+
+    -- TA alone
+    pub answered-told
+        : ends t i ≡ true
+        → sameText (endedText t i) (ascii "TA") ≡ true
+        → TareInRange p (w .tare .0)
+        → Answered p t i w (answerBytes p (tareAnswer p (w .tare .0)))
+    answered-told end alone range =
+        let k = told-tells p (numberOf p (w .tare .0)) in
+        let l = answerBytes p (tareAnswer p (w .tare .0)) in
+        let g : Follows w (tallied p t i l) = rw (after-told p t i l k alone, calm) f in
+        record {
+          accepted =
+              told-holds p t i l (w .tare .0)
+              (told-shows p (w .tare .0) (tare-printable p allowed (w .tare .0) range))
+              (rw (k .net-is) (tare-near p (resolution-allowed p allowed) w (tallied p t i l) g))
+              k
+              end
+              alone;
+          follows = g;
+        }
+
+    -- TA number unit
+    pub answered-typed
+        : (m : ℤ)
+        → ends t i ≡ true
+        → sameText (endedText t i) (ascii "TA") ≡ false
+        → isDecimal (typedText (endedText t i)) ≡ true
+        → Near 1_000_000_000 (exactFemtograms m) (typedTare p (endedText t i))
+        → TareInRange p m
+        → Answered p t i (withTare w m) (answerBytes p (tareAnswer p m))
+    answered-typed m end other decimal off range =
+        let k = told-tells p (numberOf p m) in
+        let l = answerBytes p (tareAnswer p m) in
+        let g : Follows (withTare w m) (tallied p t i l) =
+        rw (after-typed p t i l k other, calm) (record { latest = f .latest; zero = f .zero; tare = off }) in
+        record {
+          accepted =
+              typed-holds p t i l m
+              (told-shows p m (tare-printable p allowed m range))
+              (rw (k .net-is) (tare-near p (resolution-allowed p allowed) (withTare w m) (tallied p t i l) g))
+              k
+              end
+              other
+              decimal;
+          follows = g;
+        }

@@ -1,0 +1,56 @@
+-- The tally follows a weighing: the same latest load and zero, and the same tare up to half a microgram if it is typed. One law
+-- for each kind of answer, used both where a line ends and where a sample ends a wait.
+-- Assumes nothing.
+use mathlib.Core.Path.{_≡_, ap₂}
+use mathlib.Core.Bool.{true, cond}
+use lib.IntN.{_-ℤ_}
+use Rattle.device.specs.declared.profile.Profile.{Profile}
+use Rattle.device.specs.declared.weighing.Weighing.{Weighing}
+use Rattle.device.specs.Weighings.{grossOf, netOf}
+use Rattle.weight.specs.Rounding.{allowedResolution, stepFemtograms, printedFemtograms, exactFemtograms, placesOf, Near}
+use Rattle.weight.proofs.HalfStep.{half-step, exact-difference}
+use Rattle.weight.proofs.Nearness.{near-triangle, near-shift}
+use Rattle.history.specs.Tally.{Tally, Latest, none, load, latestOf, isLoaded, allowance}
+
+-- the latest load, as the tally keeps it
+abbrev pub latestIn : Weighing → Latest
+latestIn w = cond (w .sampled) (load (w .load .0)) none
+
+pub record Follows (w : Weighing) (t : Tally) : Type 0 where
+  pub latest : t .latest ≡ latestIn w
+  pub zero : t .zero ≡ w .zero .0
+  pub tare : Near (cond (t .typed) 1_000_000_000 0) (exactFemtograms (w .tare .0)) (t .tare)
+
+module _ (w : Weighing) (t : Tally) (f : Follows w t) (sampled : w .sampled ≡ true) where
+  pub is-loaded : isLoaded t ≡ true
+  is-loaded = rw (f .latest, sampled)
+
+  pub latest-is : latestOf t ≡ w .load .0
+  latest-is = rw (f .latest, sampled)
+
+  pub gross-is : latestOf t -ℤ t .zero ≡ grossOf w
+  gross-is = ap₂ _-ℤ_ latest-is (f .zero)
+
+-- the printed net is near the tally's, and the printed tare near its tare
+module _ (p : Profile) (allowed : allowedResolution (p .resolution) ≡ true) (w : Weighing) (t : Tally) (f : Follows w t) where
+  pub net-near
+      : w .sampled ≡ true
+      → Near (allowance p t) (printedFemtograms (p .resolution) (placesOf (p .resolution) (netOf w))) (exactFemtograms (latestOf t -ℤ t .zero) -ℤ t .tare)
+  net-near sampled =
+      rw (gross-is w t f sampled)
+      (near-triangle (stepFemtograms (p .resolution)) (cond (t .typed) 1_000_000_000 0)
+      (printedFemtograms (p .resolution) (placesOf (p .resolution) (netOf w)))
+      (exactFemtograms (netOf w))
+      (exactFemtograms (grossOf w) -ℤ t .tare)
+      (half-step (p .resolution) (netOf w) allowed)
+      (rw (exact-difference (grossOf w) (w .tare .0))
+      (near-shift (cond (t .typed) 1_000_000_000 0) (exactFemtograms (grossOf w)) (exactFemtograms (w .tare .0)) (t .tare) (f .tare))))
+
+  pub tare-near : Near (allowance p t) (printedFemtograms (p .resolution) (placesOf (p .resolution) (w .tare .0))) (t .tare)
+  tare-near =
+      near-triangle (stepFemtograms (p .resolution)) (cond (t .typed) 1_000_000_000 0)
+      (printedFemtograms (p .resolution) (placesOf (p .resolution) (w .tare .0)))
+      (exactFemtograms (w .tare .0))
+      (t .tare)
+      (half-step (p .resolution) (w .tare .0) allowed)
+      (f .tare)

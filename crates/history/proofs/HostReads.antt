@@ -1,0 +1,140 @@
+-- What the host hands back of an answer that the tally accepts: each piece is read, and a weight is near enough.
+-- Assumes nothing.
+use Prim.Native.Nat.{ℕ, zero, suc, _+_, _*_, _≤_}
+use native.Mathlib.Omega.{arith}
+use mathlib.Core.Path.{_≡_, refl}
+use mathlib.Core.Bool.{Bool, true, _&&_, _||_}
+use mathlib.Core.List.{List, [], _∷_}
+use borrow.Author.Tests.{lt-ltb}
+use lib.Dec.{leb, eqb}
+use lib.IntN.{ℤ, natAbs, _-ℤ_}
+use lib.Signed.{nonNeg}
+use Rattle.answer.specs.Lines.{listedLine, listedFrom, lineOf}
+use Rattle.answer.specs.declared.answer.Answer.{Answer}
+use Rattle.answer.specs.declared.answer.Answer.the-variants.{Nothing, Plain, Weight, Refused, Text, Listed, CommandList, Versions}
+use Rattle.answer.specs.declared.answer.Error.{Error}
+use Rattle.answer.specs.declared.answer.Status.{Status}
+use Rattle.device.specs.declared.profile.Profile.{Profile}
+use Rattle.device.specs.Calls.{answerText, answerBytes}
+use Rattle.device.specs.Weighings.{headOf, numberOf}
+use Rattle.history.specs.EndToEnd.{piecesAfter, piecesOf, valueHolds, piecesHold}
+use Rattle.history.specs.Tally.{Tally, isWeightAnswer, numberFemtograms, exactWeight, allowance, weightHolds}
+use Rattle.history.proofs.Pieces.{listed-first, formed-piece}
+use Rattle.history.proofs.WeightLines.{same-self, Shows}
+use Rattle.host.specs.Forms.{plainForm, weightForm, isS, canForm}
+use Rattle.host.proofs.Inverse.{read-written}
+use Rattle.weight.specs.Field.{fitsField}
+use Rattle.weight.specs.Printing.{printable, printedNumber}
+use Rattle.weight.specs.Rounding.{allowedResolution, inRange, placesOf}
+use Rattle.weight.specs.Units.{unitText}
+use Rattle.weight.proofs.Allowed.{both-right}
+
+-- each piece of the answer is read, and what is read of a weight that the tally takes is near enough
+abbrev pub Heard : Profile → Answer → Type 0
+Heard p a = (t : Tally) → weightHolds p t (answerBytes p a) ≡ true → piecesHold p t (piecesOf (answerBytes p a)) ≡ true
+
+-- ---- an answer of one line
+
+-- a line that can be formed is read as its answer
+read-back : (p : Profile) (t : Tally) (a : Answer) (text : List ℕ) (rest : List (List ℕ)) → canForm a text ≡ true
+    → piecesHold p t (lineOf a text ∷ rest) ≡ (valueHolds p t (lineOf a text) a && piecesHold p t rest)
+unfolding piecesHold
+read-back p t a text rest form = rw (read-written a text form .0)
+
+-- nothing is asked of no piece
+none-held : (p : Profile) (t : Tally) → piecesHold p t [] ≡ true
+unfolding piecesHold
+none-held p t = refl
+
+-- so it is heard if its value holds
+pub formed-heard
+    : (p : Profile) (a : Answer)
+    → canForm a (answerText p a) ≡ true
+    → ((t : Tally) → weightHolds p t (answerBytes p a) ≡ true → valueHolds p t (answerBytes p a) a ≡ true)
+    → Heard p a
+unfolding answerBytes
+formed-heard p a form value t holds =
+    rw (formed-piece a (answerText p a) form, read-back p t a (answerText p a) [] form, value t holds) (none-held p t)
+
+-- ---- no answer
+
+-- no bytes have no piece
+no-pieces : (p : Profile) (t : Tally) → piecesHold p t (piecesOf []) ≡ true
+unfolding piecesOf piecesAfter
+no-pieces p t = none-held p t
+
+pub nothing-heard : (p : Profile) → Heard p Nothing
+unfolding answerBytes lineOf
+nothing-heard p t holds = no-pieces p t
+
+-- ---- I0
+
+-- one of its lines is read
+line-held : (p : Profile) (t : Tally) (last : Bool) (c : ℕ) (rest : List (List ℕ)) → canForm (Listed last c) [] ≡ true
+    → piecesHold p t (listedLine last c ∷ rest) ≡ piecesHold p t rest
+unfolding lineOf
+line-held p t last c rest form = read-back p t (Listed last c) [] rest form
+
+-- and so are the n lines from c on
+listed-held : (p : Profile) (t : Tally) (n c : ℕ) → n + c ≤ 18 → piecesHold p t (piecesOf (listedFrom n c)) ≡ true
+unfolding listedFrom
+listed-held p t zero c known = no-pieces p t
+listed-held p t (suc n) c known =
+    let form : canForm (Listed (eqb n 0) c) [] ≡ true = rw (lt-ltb c 18 (omega arith)) in
+    rw (listed-first (eqb n 0) c (listedFrom n (suc c)), line-held p t (eqb n 0) c (piecesOf (listedFrom n (suc c))) form)
+    (listed-held p t n (suc c) (omega arith))
+
+-- all of them
+pub list-heard : (p : Profile) → Heard p CommandList
+unfolding answerBytes lineOf
+list-heard p t holds = listed-held p t 18 0 (omega arith)
+
+-- ---- answers of one line that are no weights
+
+-- an identification and a status
+pub plain-heard : (p : Profile) (c : ℕ) (s : Status) → plainForm c s ≡ true → Heard p (Plain (headOf c s))
+plain-heard p c s form = formed-heard p (Plain (headOf c s)) (rw form) (λ t holds. refl)
+
+-- ES, ET, EL
+pub refused-heard : (p : Profile) (e : Error) → Heard p (Refused e)
+refused-heard p e = formed-heard p (Refused e) refl (λ t holds. refl)
+
+-- I1
+pub versions-heard : (p : Profile) → Heard p Versions
+versions-heard p = formed-heard p Versions refl (λ t holds. refl)
+
+-- I2 to I5
+pub text-heard : (p : Profile) (c : ℕ) → canForm (Text c) (answerText p (Text c)) ≡ true → Heard p (Text c)
+text-heard p c form = formed-heard p (Text c) form (λ t holds. refl)
+
+-- ---- weights
+
+module _ (p : Profile) (w : ℤ) (fits : printable (p .resolution) w ≡ true) where
+  -- the number that is rendered
+  places-are : numberOf p w .places .0 ≡ placesOf (p .resolution) w
+  unfolding printedNumber
+  places-are = rw fits
+
+  -- fits its ten characters
+  field-fits : fitsField (p .resolution .decimals) (placesOf (p .resolution) w) ≡ true
+  unfolding printable
+  field-fits = both-right (allowedResolution (p .resolution) && inRange w) _ fits
+
+  -- what the tally takes of its ten characters
+  value-near : (t : Tally) (l : List ℕ) → isWeightAnswer l ≡ true → Shows p w l → weightHolds p t l ≡ true
+      → leb (2 * natAbs (numberFemtograms p (p .resolution .decimals) (placesOf (p .resolution) w) -ℤ exactWeight t l)) (allowance p t) ≡ true
+  unfolding weightHolds
+  value-near t l weight shows holds = rw (weight, shows .whole, shows .number) at holds
+
+  -- the reader's number is the one that the tally compared
+  pub weight-heard
+      : (c : ℕ) (s : Status)
+      → weightForm c s ≡ true
+      → (isS c || nonNeg (placesOf (p .resolution) w)) ≡ true
+      → isWeightAnswer (answerBytes p (Weight (headOf c s) (numberOf p w))) ≡ true
+      → Shows p w (answerBytes p (Weight (headOf c s) (numberOf p w)))
+      → Heard p (Weight (headOf c s) (numberOf p w))
+  weight-heard c s form sign weight shows =
+      formed-heard p (Weight (headOf c s) (numberOf p w))
+      (rw (form, places-are, field-fits, sign))
+      (λ t holds. rw (same-self (unitText (p .resolution .unit)), places-are) (value-near t _ weight shows holds))

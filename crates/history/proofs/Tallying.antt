@@ -1,0 +1,120 @@
+-- What the tally makes of an answer, by its kind.
+-- Assumes nothing.
+use Prim.Native.Nat.{ℕ, _*_, _≤_}
+use mathlib.Core.Path.{_≡_, refl, _∙_}
+use mathlib.Core.Bool.{Bool, true, false, _&&_}
+use mathlib.Core.List.{List}
+use borrow.Author.Tests.{le-leb}
+use lib.IntN.{ℤ, pos, natAbs, _-ℤ_}
+use Rattle.device.specs.declared.profile.Profile.{Profile}
+use Rattle.weight.specs.Ascii.{ascii, sameText}
+use Rattle.weight.specs.Reading.{readField, isDecimal}
+use Rattle.weight.specs.Rounding.{placeFemtograms, printedFemtograms, exactFemtograms, placesOf, Near}
+use Rattle.history.specs.Tally.{Input, Tally, chosenTally, withTareOf, withZeroOf, taken, ends, ended, endedText, isResetLine, afterReset, latestOf, isLoaded, typedText, typedTare, exactWeight, allowance, numberFemtograms, isWhole, tenOf, compares, grantsZero, grantsTare, grantsClear, grantsTyped, granted, loadHolds, typedHolds, weightHolds, tallied, holds}
+use Rattle.history.proofs.AnswerKinds.{Silent, Zeroes, Tares, Clears, Tells, Weighs}
+use Rattle.history.proofs.WeightLines.{Shows}
+
+-- ---- the line is what the input makes of it, whatever is answered
+
+-- neither @ nor a granted command touches it
+reset-line-by : (b : Bool) (u : Tally) → chosenTally b (withTareOf u (pos 0) false) u .line ≡ u .line
+reset-line-by true u = refl
+reset-line-by false u = refl
+
+granted-line-by
+    : (z t c a : Bool) (u : Tally) (latest tare typed : ℤ)
+    → chosenTally z (withZeroOf u latest)
+    (chosenTally t (withTareOf u tare false) (chosenTally c (withTareOf u (pos 0) false) (chosenTally a (withTareOf u typed true) u)))
+    .line
+    ≡ u .line
+granted-line-by true t c a u latest tare typed = refl
+granted-line-by false true c a u latest tare typed = refl
+granted-line-by false false true a u latest tare typed = refl
+granted-line-by false false false true u latest tare typed = refl
+granted-line-by false false false false u latest tare typed = refl
+
+module _ (p : Profile) (t : Tally) (i : Input) (l : List ℕ) where
+  pub tallied-line : tallied p t i l .line ≡ taken t i .line
+  unfolding tallied granted afterReset
+  tallied-line =
+      let u = afterReset t i (taken t i) in
+      granted-line-by (grantsZero l) (grantsTare l) (grantsClear l) (grantsTyped t i l) u (latestOf u) (exactFemtograms (latestOf u -ℤ u .zero)) (typedTare p (endedText t i))
+      ∙ reset-line-by (ends t i && isResetLine (ended t i)) (taken t i)
+
+  -- ---- the tally after the answer
+
+  pub after-silent : Silent l → tallied p t i l ≡ afterReset t i (taken t i)
+  unfolding tallied granted
+  after-silent k = rw (k .zero-is, k .tare-is, k .clear-is, k .told-is)
+
+  pub after-zeroes : Zeroes l → tallied p t i l ≡ withZeroOf (afterReset t i (taken t i)) (latestOf (afterReset t i (taken t i)))
+  unfolding tallied granted
+  after-zeroes k = rw (k .zero-is)
+
+  pub after-tares : Tares l
+      → tallied p t i l
+      ≡ withTareOf (afterReset t i (taken t i)) (exactFemtograms (latestOf (afterReset t i (taken t i)) -ℤ afterReset t i (taken t i) .zero)) false
+  unfolding tallied granted
+  after-tares k = rw (k .zero-is, k .tare-is)
+
+  pub after-clears : Clears l → tallied p t i l ≡ withTareOf (afterReset t i (taken t i)) (pos 0) false
+  unfolding tallied granted
+  after-clears k = rw (k .zero-is, k .tare-is, k .clear-is)
+
+  pub after-typed : Tells l → sameText (endedText t i) (ascii "TA") ≡ false
+      → tallied p t i l ≡ withTareOf (afterReset t i (taken t i)) (typedTare p (endedText t i)) true
+  unfolding tallied granted
+  after-typed k other = rw (k .zero-is, k .tare-is, k .clear-is, k .told-is, other)
+
+  pub after-told : Tells l → sameText (endedText t i) (ascii "TA") ≡ true → tallied p t i l ≡ afterReset t i (taken t i)
+  unfolding tallied granted
+  after-told k alone = rw (k .zero-is, k .tare-is, k .clear-is, k .told-is, alone)
+
+  pub after-weighs : Weighs l → tallied p t i l ≡ afterReset t i (taken t i)
+  unfolding tallied granted
+  after-weighs k = rw (k .zero-is, k .tare-is, k .clear-is, k .told-is)
+
+-- ---- a weight that is near enough
+
+module _ (p : Profile) (t : Tally) (l : List ℕ) (w : ℤ) (s : Shows p w l) (near : Near (allowance p t) (printedFemtograms (p .resolution) (placesOf (p .resolution) w)) (exactWeight t l)) where
+  -- the comparison of the tally
+  near-enough : 2 * natAbs (numberFemtograms p (p .resolution .decimals) (placesOf (p .resolution) w) -ℤ exactWeight t l) ≤ allowance p t
+  unfolding Near printedFemtograms placeFemtograms
+  near-enough = near
+
+  -- a whole weight answer passes it
+  weight-compares : (isWhole p l && compares p t l (readField (tenOf l))) ≡ true
+  weight-compares = rw (s .whole, s .number) (le-leb _ _ near-enough)
+
+-- ---- what is asked of the answer
+
+module _ (p : Profile) (t : Tally) (i : Input) (l : List ℕ) where
+  pub silent-holds : Silent l → holds p t i l ≡ true
+  unfolding holds loadHolds typedHolds weightHolds
+  silent-holds k = rw (k .zero-is, k .tare-is, k .told-is, k .net-is)
+
+  pub zeroes-holds : Zeroes l → isLoaded (taken t i) ≡ true → holds p t i l ≡ true
+  unfolding holds loadHolds typedHolds weightHolds
+  zeroes-holds k loaded = rw (k .zero-is, k .tare-is, k .told-is, k .net-is, loaded)
+
+  pub clears-holds : Clears l → holds p t i l ≡ true
+  unfolding holds loadHolds typedHolds weightHolds
+  clears-holds k = rw (k .zero-is, k .tare-is, k .told-is, k .net-is)
+
+  module _ (w : ℤ) (s : Shows p w l) (near : Near (allowance p (tallied p t i l)) (printedFemtograms (p .resolution) (placesOf (p .resolution) w)) (exactWeight (tallied p t i l) l)) where
+    pub weighs-holds : Weighs l → isLoaded (taken t i) ≡ true → holds p t i l ≡ true
+    unfolding holds loadHolds typedHolds weightHolds
+    weighs-holds k loaded = rw (k .zero-is, k .tare-is, k .told-is, k .net-is, loaded) (weight-compares p (tallied p t i l) l w s near)
+
+    pub tares-holds : Tares l → isLoaded (taken t i) ≡ true → holds p t i l ≡ true
+    unfolding holds loadHolds typedHolds weightHolds
+    tares-holds k loaded = rw (k .zero-is, k .tare-is, k .told-is, k .net-is, loaded) (weight-compares p (tallied p t i l) l w s near)
+
+    pub told-holds : Tells l → ends t i ≡ true → sameText (endedText t i) (ascii "TA") ≡ true → holds p t i l ≡ true
+    unfolding holds loadHolds typedHolds weightHolds
+    told-holds k end alone = rw (k .zero-is, k .tare-is, k .told-is, k .net-is, end, alone) (weight-compares p (tallied p t i l) l w s near)
+
+    pub typed-holds : Tells l → ends t i ≡ true → sameText (endedText t i) (ascii "TA") ≡ false → isDecimal (typedText (endedText t i)) ≡ true → holds p t i l ≡ true
+    unfolding holds loadHolds typedHolds weightHolds
+    typed-holds k end other decimal =
+        rw (k .zero-is, k .tare-is, k .told-is, k .net-is, end, other, decimal) (weight-compares p (tallied p t i l) l w s near)

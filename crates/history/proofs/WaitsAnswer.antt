@@ -1,0 +1,75 @@
+-- Which answers have bytes: all but Nothing.
+-- Assumes nothing.
+use mathlib.Core.Path.{_≡_, refl}
+use mathlib.Core.Bool.{Bool, true, false, cond}
+use mathlib.Core.List.{List, [], _∷_, _++_}
+use Prim.Native.Nat.{ℕ}
+use lib.IntN.{pos, negℤ}
+use lib.Signed.{ltZ}
+use Rattle.answer.specs.declared.answer.Answer.{Answer}
+use Rattle.answer.specs.declared.answer.Answer.the-variants.{Nothing, Plain, Weight, Refused, Text, Listed, CommandList, Versions}
+use Rattle.answer.specs.Commands.{nameOf, levelOf}
+use Rattle.answer.specs.Lines.{lineEnd, quoted, headText, weightText, errorText, listedLine, listedFrom, lineOf}
+use Rattle.device.specs.declared.profile.Profile.{Profile}
+use Rattle.device.specs.declared.weighing.Weighing.{Weighing}
+use Rattle.device.specs.Calls.{answerBytes}
+use Rattle.device.specs.Profiles.{identityText}
+use Rattle.device.specs.Weighings.{placeS, grossOf, netOf, headOf, numberOf, stability, inLimits, weighed, zeroed, tared}
+use Rattle.answer.specs.declared.answer.Status.{Status}
+use Rattle.weight.specs.Ascii.{ascii, digit}
+use Rattle.history.specs.Waits.{isEmpty}
+
+-- nothing is sent
+abbrev pub isSilent : Answer → Bool
+isSilent Nothing = true
+isSilent (Plain h) = false
+isSilent (Weight h n) = false
+isSilent (Refused e) = false
+isSilent (Text c) = false
+isSilent (Listed last c) = false
+isSilent CommandList = false
+isSilent Versions = false
+
+-- a line has at least its CR LF
+line-full : (l : List ℕ) → isEmpty (l ++ lineEnd) ≡ false
+line-full [] = refl
+line-full (c ∷ l) = refl
+
+-- an answer has no bytes exactly where nothing is sent
+pub silent-empty : (p : Profile) (a : Answer) → isEmpty (answerBytes p a) ≡ isSilent a
+unfolding answerBytes lineOf listedLine listedFrom
+silent-empty p Nothing = refl
+silent-empty p (Plain h) = line-full (headText h)
+silent-empty p (Weight h n) = line-full (headText h ++ ascii " " ++ weightText n)
+silent-empty p (Refused e) = line-full (errorText e)
+silent-empty p (Text c) = line-full (nameOf c ++ ascii " A " ++ quoted (identityText p c))
+silent-empty p (Listed last c) = line-full (ascii "I0 " ++ cond last (ascii "A") (ascii "B") ++ ascii " " ++ (digit (levelOf c) ∷ []) ++ ascii " " ++ quoted (nameOf c))
+silent-empty p CommandList = refl
+silent-empty p Versions = refl
+
+-- ---- the answers of S, Z and T
+
+limits-sent : (c : ℕ) (over under : Bool) (a : Answer) → isSilent a ≡ false → isSilent (inLimits c over under a) ≡ false
+limits-sent c true under a e = refl
+limits-sent c false true a e = refl
+limits-sent c false false a e = e
+
+module _ (p : Profile) (w : Weighing) where
+  pub weighed-sent : isSilent (weighed p w) ≡ false
+  unfolding weighed
+  weighed-sent =
+      limits-sent placeS (ltZ (pos (p .capacity)) (grossOf w)) (ltZ (grossOf w) (negℤ (pos (p .underload))))
+      (Weight (headOf placeS (stability w)) (numberOf p (netOf w)))
+      refl
+
+  pub zeroed-sent : (c : ℕ) (granted : Status) → isSilent (zeroed p w c granted .answer) ≡ false
+  unfolding zeroed
+  zeroed-sent c granted =
+      limits-sent c (ltZ (pos (p .zeroing)) (w .load .0)) (ltZ (w .load .0) (negℤ (pos (p .zeroing)))) (Plain (headOf c granted)) refl
+
+  pub tared-sent : (c : ℕ) → isSilent (tared p w c .answer) ≡ false
+  unfolding tared
+  tared-sent c =
+      limits-sent c (ltZ (pos (p .capacity)) (grossOf w)) (ltZ (grossOf w) (pos 0))
+      (Weight (headOf c (stability w)) (numberOf p (grossOf w)))
+      refl

@@ -1,0 +1,104 @@
+-- Over every list of calls after power-on: no call is refused by 1 or 2, every line has its answer or waits, and a wait ends where
+-- it is due.
+-- Assumes nothing.
+use mathlib.Core.Path.{_≡_, refl, sym, _∙_}
+use mathlib.Core.Bool.{Bool, true, false}
+use mathlib.Core.List.{List, _∷_}
+use Prim.Native.Nat.{ℕ}
+use lib.ListN.{take}
+use Rattle.answer.specs.declared.answer.Answer.the-variants as answers
+use Rattle.device.specs.declared.call.Called.{Called}
+use Rattle.device.specs.declared.call.Refusal.the-variants as refusals
+use Rattle.device.specs.declared.profile.Profile.{Profile}
+use Rattle.device.specs.declared.react.Reaction.{Reaction}
+use Rattle.device.specs.declared.state.State.{State}
+use Rattle.device.specs.Calls.{numberOfRefusal, answerBytes}
+use Rattle.device.specs.Profiles.{profileAllowed}
+use Rattle.device.specs.Reactions.{withLine, performed, byteReaction, sampleReaction}
+use Rattle.device.specs.States.{isPending, stateAllowed, startState}
+use Rattle.device.proofs.StateFacts.{start-allowed}
+use Rattle.line.specs.declared.receive.Line.{Line}
+use Rattle.line.specs.Judging.{judgement}
+use Rattle.line.specs.Receiving.{clearedLine, receivedByte}
+use Rattle.line.specs.Unbounded.{Marked, endsUnbounded, finishedLine}
+use Rattle.line.proofs.Kept.{Holds, Keeps, keeps-cleared, keeps-empty, markedAs, ends-alike, holds-finished, keeps-byte, holds-judged}
+use Rattle.history.specs.Tally.{Input, byteIs, sampleIs}
+use Rattle.history.specs.Waits.{Waits, startWaits, afterInput, waitsHold, WaitsEnd}
+use Rattle.history.proofs.Along.{Followed, Step, along}
+use Rattle.history.proofs.WaitsAllowed.{by-choice, byte-allowed, sample-allowed}
+use Rattle.history.proofs.WaitsDelivered.{Delivered, given, withheld, byte-delivered, sample-delivered, Started, started}
+use Rattle.history.proofs.WaitsPerformed.{same-line, performed-kind}
+use Rattle.history.proofs.WaitsStep.{Follows, Reacts, ended-reacts, joined-reacts, sample-reacts}
+
+-- a byte that ends no line joins it
+keeps-on : (l : Line) (u : List Marked) (b : ℕ) (bad : Bool) → Keeps l u → endsUnbounded u (markedAs b bad) ≡ false
+    → Keeps (receivedByte l b bad .line) (markedAs b bad ∷ u)
+keeps-on l u b bad k e = rw e at (keeps-byte l u k b bad e)
+
+-- a byte, if the state after it is allowed
+byte-reacts : (p : Profile) (s : State) (w : Waits) (b : ℕ) (bad : Bool) → Follows p s w
+    → stateAllowed p (byteReaction p s b bad .state) ≡ true → Reacts p w (byteIs (markedAs b bad)) (byteReaction p s b bad)
+unfolding byteReaction
+byte-reacts p s w b bad old =
+    let l : Line = receivedByte (s .line) b bad .line in
+    let same : receivedByte (s .line) b bad .ended ≡ endsUnbounded (w .line) (markedAs b bad) = ends-alike (s .line) (w .line) (old .line) b bad in
+    let v = judgement (p .capacity) (p .resolution .unit) l (isPending (s .waiting .pending)) (s .weighing .sampled) in
+    let t : State = withLine s (clearedLine l) in
+    by-choice (λ x. stateAllowed p (x .state) ≡ true → Reacts p w (byteIs (markedAs b bad)) x) (receivedByte (s .line) b bad .ended)
+    (λ e allowed.
+    let ends : endsUnbounded (w .line) (markedAs b bad) ≡ true = sym same ∙ e in
+    let held : Holds l (finishedLine (w .line)) = holds-finished (s .line) (w .line) (old .line) b bad ends in
+    let kind = performed-kind p t l v in
+    ended-reacts p s w (markedAs b bad) (performed p t l v) old allowed
+    (rw (same-line kind) (keeps-cleared l (held .cells)))
+    ends
+    (s .weighing .sampled)
+    v
+    (holds-judged (p .capacity) (p .resolution .unit) (isPending (s .waiting .pending)) (s .weighing .sampled) l (finishedLine (w .line)) held)
+    t
+    refl
+    kind)
+    (λ e allowed.
+    let on : endsUnbounded (w .line) (markedAs b bad) ≡ false = sym same ∙ e in
+    joined-reacts p s w (markedAs b bad) l old allowed on (keeps-on (s .line) (w .line) b bad (old .line) on))
+
+-- what was delivered follows
+delivered-followed : (p : Profile) (s : State) (w : Waits) (i : Input) (x : Reaction) {r : Called} {buffer : List ℕ} → Delivered p s x r buffer
+    → Follows p s w → Reacts p w i x
+    → Followed Waits (Follows p) (waitsHold p) (r .state) w
+    (record { input = i; refusal = numberOfRefusal (r .refusal); answer = take (r .count) buffer })
+unfolding waitsHold
+delivered-followed p s w i x (given none state answer) old new =
+    record {
+      next = afterInput w i (answerBytes p (x .answer));
+      kept = rw state (new .next);
+      joins = λ es e. rw (none, answer, new .holds) e;
+    }
+delivered-followed p s w i x (withheld room state answer) old new =
+    record { next = w; kept = rw state old; joins = λ es e. rw (room, answer) e }
+
+step : (p : Profile) → profileAllowed p ≡ true → Step p Waits (Follows p) (waitsHold p)
+unfolding waitsHold
+step p profile =
+    record {
+      ends = λ w. refl;
+      byte = λ s w b bad room r buffer old call.
+          delivered-followed p s w (byteIs (markedAs b bad)) (byteReaction p s b bad)
+          (byte-delivered p s room profile (old .allowed) call)
+          old
+          (byte-reacts p s w b bad old (byte-allowed p profile s (old .allowed) (w .line) b bad (old .line)));
+      sample = λ s w z stable room r buffer old call.
+          delivered-followed p s w (sampleIs (z .0) stable) (sampleReaction p s z stable)
+          (sample-delivered p s room profile (old .allowed) call)
+          old
+          (sample-reacts p s w z stable old (sample-allowed p profile s (old .allowed) z stable));
+    }
+
+start-follows : (p : Profile) → Follows p startState startWaits
+unfolding startState
+start-follows p = record { allowed = start-allowed p; line = keeps-empty; waiting = refl; counted = λ e. refl }
+
+pub waits-end : WaitsEnd
+waits-end p earlier room r buffer call none es s calls =
+    let on : Started p (r .state) = started p earlier room call none in
+    along (step p (on .profile)) startWaits (rw (on .state) (start-follows p)) calls

@@ -1,0 +1,286 @@
+-- One call's reaction against the record of waits: what is asked of its answer holds, and the record follows the state again.
+-- Assumes nothing.
+use mathlib.Core.Path.{_≡_, refl, sym, ap, _∙_}
+use mathlib.Core.Bool.{Bool, true, false, cond, not, _&&_, _||_, false≢true, and-false}
+use mathlib.Core.List.{List, [], _∷_}
+use Prim.Native.Nat.{ℕ, suc, _+_, _<_, _≤_}
+use native.Mathlib.Omega.{arith}
+use borrow.Author.Tests.{leb-true, leb-false, eq-eqb, ne-eqb}
+use lib.Dec.{leb}
+use Rattle.answer.specs.declared.answer.Answer.the-variants as answers
+use Rattle.answer.specs.declared.answer.Status.the-variants.{I}
+use Rattle.answer.specs.Lines.{headText, lineOf}
+use Rattle.device.specs.declared.profile.Profile.{Profile}
+use Rattle.device.specs.declared.react.Reaction.{Reaction}
+use Rattle.device.specs.declared.state.Pending.{Pending}
+use Rattle.device.specs.declared.state.Pending.the-variants.{Nothing, Weigh, Zero, Tare}
+use Rattle.device.specs.declared.state.State.{State}
+use Rattle.device.specs.declared.weighing.Load.{Load}
+use Rattle.device.specs.Calls.{answerBytes}
+use Rattle.device.specs.Reactions.{withLine, withWeighing, withWaiting, reaction, measuredReaction, notWaiting, placeOfPending, settled, waited, sampleReaction}
+use Rattle.device.specs.States.{isPending, stateAllowed}
+use Rattle.device.specs.Weighings.{headOf, weighed, withSample}
+use Rattle.line.specs.declared.judge.Verdict.{Verdict}
+use Rattle.line.specs.declared.receive.Line.{Line}
+use Rattle.line.specs.Unbounded.{Marked, endsUnbounded, finishedLine, judgementOf}
+use Rattle.line.proofs.Kept.{Keeps}
+use Rattle.line.proofs.Verdicts.{run-line}
+use Rattle.device.proofs.StateFacts.{allowed-state}
+use Rattle.history.specs.Tally.{Input, byteIs, sampleIs, isResetLine}
+use Rattle.history.specs.Waits.{Waits, isEmpty, mayWait, isTimeout, afterLine, afterInput, byteHolds, inputHolds}
+use Rattle.history.proofs.WaitsAllowed.{by-choice}
+use Rattle.history.proofs.WaitsAnswer.{isSilent, silent-empty}
+use Rattle.history.proofs.WaitsPerformed.{Performed, answered, dropped, begins, settled-sent}
+use Rattle.history.proofs.WaitsVerdict.{resets, reset-test}
+
+-- ---- the definitions, by whether a line ended
+
+module _ (p : Profile) (w : Waits) (m : Marked) (l : List ℕ) where
+  after-ended : endsUnbounded (w .line) m ≡ true → afterInput w (byteIs m) l ≡ afterLine w (finishedLine (w .line)) l
+  after-ended e = rw (e, afterInput)
+
+  after-joined : endsUnbounded (w .line) m ≡ false
+      → afterInput w (byteIs m) l ≡ record { line = m ∷ w .line; waiting = w .waiting; unstable = w .unstable }
+  after-joined e = rw (e, afterInput)
+
+  holds-ended : endsUnbounded (w .line) m ≡ true
+      → inputHolds p w (byteIs m) l ≡ (not (isEmpty l) || (not (w .waiting) && mayWait (finishedLine (w .line))))
+  holds-ended e = rw (e, byteHolds)
+
+  holds-joined : endsUnbounded (w .line) m ≡ false → inputHolds p w (byteIs m) l ≡ isEmpty l
+  holds-joined e = rw (e, byteHolds)
+
+-- the record of waits follows the state
+pub record Follows (p : Profile) (s : State) (w : Waits) : Type 0 where
+  pub allowed : stateAllowed p s ≡ true
+  pub line : Keeps (s .line) (w .line)
+  pub waiting : w .waiting ≡ isPending (s .waiting .pending)
+  pub counted : isPending (s .waiting .pending) ≡ true → w .unstable ≡ s .waiting .unstable
+
+-- a reaction x to the input i
+pub record Reacts (p : Profile) (w : Waits) (i : Input) (x : Reaction) : Type 0 where
+  pub holds : inputHolds p w i (answerBytes p (x .answer)) ≡ true
+  pub next : Follows p (x .state) (afterInput w i (answerBytes p (x .answer)))
+
+-- ---- a line ended
+
+module _ (p : Profile) (s : State) (w : Waits) (m : Marked) (x : Reaction) (old : Follows p s w)
+    (allowed : stateAllowed p (x .state) ≡ true) (empty : Keeps (x .state .line) []) (ends : endsUnbounded (w .line) m ≡ true) where
+  -- it was answered, and the wait is as before
+  answered-reacts : isResetLine (finishedLine (w .line)) ≡ false → isSilent (x .answer) ≡ false → x .state .waiting ≡ s .waiting
+      → Reacts p w (byteIs m) x
+  answered-reacts noreset sent same =
+      let full : isEmpty (answerBytes p (x .answer)) ≡ false = silent-empty p (x .answer) ∙ sent in
+      record {
+        holds = rw (holds-ended p w m (answerBytes p (x .answer)) ends, full);
+        next =
+            rw (after-ended p w m (answerBytes p (x .answer)) ends)
+            (record {
+              allowed = allowed;
+              line = empty;
+              waiting = rw (noreset, full, same) (old .waiting);
+              counted = rw (full, same) (old .counted);
+            });
+      }
+
+  -- it was @
+  dropped-reacts : isResetLine (finishedLine (w .line)) ≡ true → isSilent (x .answer) ≡ false → x .state .waiting ≡ notWaiting
+      → Reacts p w (byteIs m) x
+  dropped-reacts reset sent none =
+      let full : isEmpty (answerBytes p (x .answer)) ≡ false = silent-empty p (x .answer) ∙ sent in
+      record {
+        holds = rw (holds-ended p w m (answerBytes p (x .answer)) ends, full);
+        next =
+            rw (after-ended p w m (answerBytes p (x .answer)) ends)
+            (record {
+              allowed = allowed;
+              line = empty;
+              waiting = rw (reset, none);
+              counted = rw none (λ e. absurd (false≢true e));
+            });
+      }
+
+  -- it was S, T or Z, and waits from now on
+  begins-reacts : (pending : Pending)
+      → isResetLine (finishedLine (w .line)) ≡ false
+      → isSilent (x .answer) ≡ true
+      → isPending (s .waiting .pending) ≡ false
+      → mayWait (finishedLine (w .line)) ≡ true
+      → isPending pending ≡ true
+      → x .state .waiting ≡ record { pending = pending; unstable = 0 }
+      → Reacts p w (byteIs m) x
+  begins-reacts pending noreset silent free may waits now =
+      let none : isEmpty (answerBytes p (x .answer)) ≡ true = silent-empty p (x .answer) ∙ silent in
+      let before : w .waiting ≡ false = old .waiting ∙ free in
+      record {
+        holds = rw (holds-ended p w m (answerBytes p (x .answer)) ends, none, before, may);
+        next =
+            rw (after-ended p w m (answerBytes p (x .answer)) ends)
+            (record {
+              allowed = allowed;
+              line = empty;
+              waiting = rw (noreset, none, now) (sym waits);
+              counted = rw (none, now) (λ e. refl);
+            });
+      }
+
+  -- by the verdict
+  pub ended-reacts : (sampled : Bool) (v : Verdict)
+      → v ≡ judgementOf (p .capacity) (p .resolution .unit) (finishedLine (w .line)) (isPending (s .waiting .pending)) sampled
+      → (t : State)
+      → t .waiting ≡ s .waiting
+      → Performed t v x
+      → Reacts p w (byteIs m) x
+  ended-reacts sampled v e t same (answered noreset sent kept line) =
+      answered-reacts
+      (sym (reset-test (p .capacity) (p .resolution .unit) (finishedLine (w .line)) (isPending (s .waiting .pending)) sampled)
+      ∙ ap resets (sym e)
+      ∙ noreset)
+      sent
+      (kept ∙ same)
+  ended-reacts sampled v e t same (dropped reset sent none line) =
+      dropped-reacts
+      (sym (reset-test (p .capacity) (p .resolution .unit) (finishedLine (w .line)) (isPending (s .waiting .pending)) sampled)
+      ∙ ap resets (sym e)
+      ∙ reset)
+      sent
+      none
+  ended-reacts sampled v e t same (begins c pending runs named waits silent now line) =
+      let was = run-line (p .capacity) (p .resolution .unit) (finishedLine (w .line)) (isPending (s .waiting .pending)) sampled (sym e ∙ runs) in
+      begins-reacts pending
+      (sym (reset-test (p .capacity) (p .resolution .unit) (finishedLine (w .line)) (isPending (s .waiting .pending)) sampled)
+      ∙ ap resets (sym e ∙ runs))
+      silent
+      (was .free)
+      (rw (was .line .good, was .line .bytes) named)
+      waits
+      now
+
+-- ---- a byte that ends no line
+
+pub joined-reacts : (p : Profile) (s : State) (w : Waits) (m : Marked) (l : Line) → Follows p s w → stateAllowed p (withLine s l) ≡ true
+    → endsUnbounded (w .line) m ≡ false → Keeps l (m ∷ w .line) → Reacts p w (byteIs m) (reaction (withLine s l) answers.Nothing)
+unfolding answerBytes lineOf
+joined-reacts p s w m l old allowed on keeps =
+    record {
+      holds = holds-joined p w m (answerBytes p answers.Nothing) on;
+      next =
+          rw (after-joined p w m (answerBytes p answers.Nothing) on)
+          (record { allowed = allowed; line = keeps; waiting = old .waiting; counted = old .counted });
+    }
+
+-- ---- a sample
+
+-- the answer that ends a wait is S I, T I or Z I
+timeout-answer : (p : Profile) (pending : Pending) → isPending pending ≡ true
+    → isTimeout (answerBytes p (answers.Plain (headOf (placeOfPending pending) I))) ≡ true
+unfolding answerBytes lineOf headText
+timeout-answer p Nothing e = absurd (false≢true e)
+timeout-answer p Weigh e = refl
+timeout-answer p Zero e = refl
+timeout-answer p Tare e = refl
+
+timeout-full : (p : Profile) (c : ℕ) → isEmpty (answerBytes p (answers.Plain (headOf c I))) ≡ false
+timeout-full p c = silent-empty p (answers.Plain (headOf c I))
+
+module _ (p : Profile) (s : State) (w : Waits) (z : Load) (stable : Bool) (old : Follows p s w) where
+  -- no command waited
+  free-reacts : (x : Reaction) → isPending (s .waiting .pending) ≡ false → x .state .waiting ≡ s .waiting → x .state .line ≡ s .line
+      → stateAllowed p (x .state) ≡ true → Reacts p w (sampleIs (z .0) stable) x
+  free-reacts x free same line allowed =
+      let none : w .waiting ≡ false = old .waiting ∙ free in
+      record {
+        holds = rw none;
+        next =
+            record {
+              allowed = allowed;
+              line = rw line (old .line);
+              waiting = rw (none, same, free);
+              counted = rw (none, same) (old .counted);
+            };
+      }
+
+  module _ (waits : isPending (s .waiting .pending) ≡ true) where
+    before : w .waiting ≡ true
+    before = old .waiting ∙ waits
+
+    -- a stable sample is answered, and the wait is over
+    stable-reacts : (x : Reaction) → stable ≡ true → isSilent (x .answer) ≡ false → x .state .waiting ≡ notWaiting → x .state .line ≡ s .line
+        → stateAllowed p (x .state) ≡ true → Reacts p w (sampleIs (z .0) stable) x
+    stable-reacts x e sent none line allowed =
+        let full : isEmpty (answerBytes p (x .answer)) ≡ false = silent-empty p (x .answer) ∙ sent in
+        record {
+          holds = rw (before, e, full);
+          next =
+              record {
+                allowed = allowed;
+                line = rw line (old .line);
+                waiting = rw (full, none, and-false (w .waiting));
+                counted = rw none (λ f. absurd (false≢true f));
+              };
+        }
+
+    -- the W-th unstable one ends it with I
+    last-reacts : (t : State) → stable ≡ false → t .line ≡ s .line → p .timeout ≤ s .waiting .unstable + 1
+        → stateAllowed p (withWaiting t notWaiting) ≡ true
+        → Reacts p w (sampleIs (z .0) stable) (reaction (withWaiting t notWaiting) (answers.Plain (headOf (placeOfPending (s .waiting .pending)) I)))
+    last-reacts t e line most allowed =
+        let count : suc (w .unstable) ≡ p .timeout = omega (arith, old .counted waits, allowed-state p s (old .allowed) .waiting waits) in
+        let full : isEmpty (answerBytes p (answers.Plain (headOf (placeOfPending (s .waiting .pending)) I))) ≡ false =
+        timeout-full p (placeOfPending (s .waiting .pending))
+        in
+        record {
+          holds = rw (before, e, eq-eqb (suc (w .unstable)) (p .timeout) count) (timeout-answer p (s .waiting .pending) waits);
+          next =
+              record {
+                allowed = allowed;
+                line = rw line (old .line);
+                waiting = rw (full, and-false (w .waiting));
+                counted = λ f. absurd (false≢true f);
+              };
+        }
+
+    -- one before it is counted
+    counted-reacts : (t : State) → stable ≡ false → t .line ≡ s .line → s .waiting .unstable + 1 < p .timeout
+        → stateAllowed p (withWaiting t (record { pending = s .waiting .pending; unstable = s .waiting .unstable + 1 })) ≡ true
+        → Reacts p w (sampleIs (z .0) stable)
+        (reaction (withWaiting t (record { pending = s .waiting .pending; unstable = s .waiting .unstable + 1 })) answers.Nothing)
+    unfolding answerBytes lineOf
+    counted-reacts t e line less allowed =
+        let same : w .unstable ≡ s .waiting .unstable = old .counted waits in
+        let not-last : suc (w .unstable) ≡ p .timeout → ⊥ = λ f. omega arith in
+        record {
+          holds = rw (before, e, ne-eqb (suc (w .unstable)) (p .timeout) not-last);
+          next =
+              record {
+                allowed = allowed;
+                line = rw line (old .line);
+                waiting = rw (before, waits);
+                counted = λ f. rw (before, e) (omega arith);
+              };
+        }
+
+-- ---- the two reactions
+
+-- a sample, if the state after it is allowed
+pub sample-reacts : (p : Profile) (s : State) (w : Waits) (z : Load) (stable : Bool) → Follows p s w
+    → stateAllowed p (sampleReaction p s z stable .state) ≡ true → Reacts p w (sampleIs (z .0) stable) (sampleReaction p s z stable)
+unfolding sampleReaction waited
+sample-reacts p s w z stable old =
+    let t : State = withWeighing s (withSample (s .weighing) z stable) in
+    let Goal : Reaction → Type 0 = λ x. stateAllowed p (x .state) ≡ true → Reacts p w (sampleIs (z .0) stable) x in
+    by-choice Goal (isPending (s .waiting .pending))
+    (λ waits.
+    by-choice Goal stable
+    (λ e. stable-reacts p s w z stable old waits
+    (measuredReaction (withWaiting t notWaiting) (settled p (s .waiting .pending) (t .weighing)))
+    e
+    (settled-sent p (s .waiting .pending) (t .weighing) waits)
+    refl
+    refl)
+    (λ e.
+    by-choice Goal (leb (p .timeout) (s .waiting .unstable + 1))
+    (λ most. last-reacts p s w z stable old waits t e refl (leb-true (p .timeout) (s .waiting .unstable + 1) most))
+    (λ less. counted-reacts p s w z stable old waits t e refl (leb-false (p .timeout) (s .waiting .unstable + 1) less))))
+    (λ free.
+    free-reacts p s w z stable old (reaction t (cond (s .repeating) (weighed p (t .weighing)) answers.Nothing)) free refl refl)

@@ -1,0 +1,106 @@
+-- A weight answer whole: the ten characters of its line are read back as the number that was printed.
+-- Assumes nothing.
+use Prim.Native.Nat.{ℕ}
+use mathlib.Core.Path.{_≡_, refl}
+use mathlib.Core.Bool.{Bool, true, false, cond, _&&_}
+use mathlib.Core.List.{List, [], _∷_, _++_, append-assoc}
+use borrow.Author.Tests.{eq-eqb}
+use lib.IntN.{ℤ}
+use lib.ListN.{length, take, drop}
+use lib.Seq.{take-at, drop-at}
+use Rattle.answer.specs.declared.answer.Answer.the-variants.{Weight}
+use Rattle.answer.specs.declared.answer.Status.the-variants.{A, S, D}
+use Rattle.answer.specs.Lines.{lineEnd, headText, weightText, lineOf}
+use Rattle.device.specs.declared.profile.Profile.{Profile}
+use Rattle.device.specs.Weighings.{headOf, numberOf, placeS, placeT, placeTA, placeTI}
+use Rattle.device.specs.Calls.{answerBytes}
+use Rattle.weight.specs.declared.reading.FieldRead.the-variants.{Number as ReadNumber}
+use Rattle.weight.specs.Ascii.{ascii, sameText}
+use Rattle.weight.specs.Units.{unitText}
+use Rattle.weight.specs.Field.{fitsField, fieldOf}
+use Rattle.weight.specs.Reading.{readField}
+use Rattle.weight.specs.Rounding.{allowedResolution, inRange, placesOf}
+use Rattle.weight.specs.Printing.{printable, printedNumber}
+use Rattle.weight.proofs.Allowed.{both-right}
+use Rattle.weight.proofs.ReadBack.{read-back}
+use Rattle.weight.proofs.Width.{field-length}
+use Rattle.history.specs.Tally.{tenOf, isWhole}
+
+-- a text is the same as itself
+pub same-self : (t : List ℕ) → sameText t t ≡ true
+same-self [] = refl
+same-self (c ∷ t) = rw (eq-eqb c c refl) (same-self t)
+
+-- ---- four pieces, of which the first has ten characters
+
+module _ (f g u e : List ℕ) (long : length f ≡ 10) where
+  first-piece : f ++ g ++ u ++ e ≡ f ++ (g ++ u ++ e)
+  first-piece = simp append-assoc
+
+  ten-first : take 10 (f ++ g ++ u ++ e) ≡ f
+  ten-first = rw first-piece (take-at f (g ++ u ++ e) 10 long)
+
+  rest-after : drop 10 (f ++ g ++ u ++ e) ≡ g ++ u ++ e
+  rest-after = rw first-piece (drop-at f (g ++ u ++ e) 10 long)
+
+-- ---- the weight after the head
+
+module _ (p : Profile) (w : ℤ) (fits : printable (p .resolution) w ≡ true) where
+  places-printed : printedNumber (p .resolution) w .places .0 ≡ placesOf (p .resolution) w
+  unfolding printedNumber
+  places-printed = rw fits
+
+  field-fits : fitsField (p .resolution .decimals) (placesOf (p .resolution) w) ≡ true
+  unfolding printable
+  field-fits = both-right (allowedResolution (p .resolution) && inRange w) _ fits
+
+  -- ten characters, space, unit
+  weight-pieces : weightText (numberOf p w) ≡ fieldOf (p .resolution .decimals) (placesOf (p .resolution) w) ++ ascii " " ++ unitText (p .resolution .unit)
+  unfolding weightText
+  weight-pieces = rw (places-printed, field-fits)
+
+  ten-printed : take 10 (weightText (numberOf p w) ++ lineEnd) ≡ fieldOf (p .resolution .decimals) (placesOf (p .resolution) w)
+  ten-printed =
+      rw weight-pieces
+      (ten-first (fieldOf (p .resolution .decimals) (placesOf (p .resolution) w)) (ascii " ") (unitText (p .resolution .unit)) lineEnd
+      (field-length (p .resolution .decimals) (placesOf (p .resolution) w) field-fits))
+
+  rest-printed : drop 10 (weightText (numberOf p w) ++ lineEnd) ≡ ascii " " ++ unitText (p .resolution .unit) ++ lineEnd
+  rest-printed =
+      rw weight-pieces
+      (rest-after (fieldOf (p .resolution .decimals) (placesOf (p .resolution) w)) (ascii " ") (unitText (p .resolution .unit)) lineEnd
+      (field-length (p .resolution .decimals) (placesOf (p .resolution) w) field-fits))
+
+  -- the number is read back
+  number-back : readField (take 10 (weightText (numberOf p w) ++ lineEnd)) ≡ ReadNumber (p .resolution .decimals) (record { 0 = placesOf (p .resolution) w })
+  number-back = rw ten-printed (read-back (p .resolution .decimals) (placesOf (p .resolution) w) field-fits)
+
+  -- and the unit and CR LF follow it
+  rest-whole : sameText (drop 10 (weightText (numberOf p w) ++ lineEnd)) (ascii " " ++ unitText (p .resolution .unit) ++ ascii "\r\n") ≡ true
+  rest-whole = rw rest-printed (same-self (ascii " " ++ unitText (p .resolution .unit) ++ lineEnd))
+
+-- ---- the weight lines
+
+-- a whole weight answer, whose number is that of w micrograms
+pub record Shows (p : Profile) (w : ℤ) (l : List ℕ) : Type 0 where
+  pub whole : isWhole p l ≡ true
+  pub number : readField (tenOf l) ≡ ReadNumber (p .resolution .decimals) (record { 0 = placesOf (p .resolution) w })
+
+module _ (p : Profile) (w : ℤ) (fits : printable (p .resolution) w ≡ true) where
+  pub weighed-shows : (stable : Bool) → Shows p w (answerBytes p (Weight (headOf placeS (cond stable S D)) (numberOf p w)))
+  unfolding answerBytes lineOf headText
+  weighed-shows true = record { whole = rest-whole p w fits; number = number-back p w fits }
+  weighed-shows false = record { whole = rest-whole p w fits; number = number-back p w fits }
+
+  pub tared-shows : Shows p w (answerBytes p (Weight (headOf placeT S) (numberOf p w)))
+  unfolding answerBytes lineOf headText
+  tared-shows = record { whole = rest-whole p w fits; number = number-back p w fits }
+
+  pub tared-now-shows : (stable : Bool) → Shows p w (answerBytes p (Weight (headOf placeTI (cond stable S D)) (numberOf p w)))
+  unfolding answerBytes lineOf headText
+  tared-now-shows true = record { whole = rest-whole p w fits; number = number-back p w fits }
+  tared-now-shows false = record { whole = rest-whole p w fits; number = number-back p w fits }
+
+  pub told-shows : Shows p w (answerBytes p (Weight (headOf placeTA A) (numberOf p w)))
+  unfolding answerBytes lineOf headText
+  told-shows = record { whole = rest-whole p w fits; number = number-back p w fits }

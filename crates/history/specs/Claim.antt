@@ -1,0 +1,43 @@
+-- Document 01, "The tally of demand 3": the list of calls, and the claim over the whole of it.
+-- Assumes nothing.
+use Prim.Native.Nat.{ℕ}
+use mathlib.Core.Path.{_≡_}
+use mathlib.Core.Bool.{Bool, true}
+use mathlib.Core.List.{List, [], _∷_}
+use lib.ListN.{take}
+use Rattle.device.specs.declared.profile.Profile.{Profile}
+use Rattle.device.specs.declared.state.State.{State}
+use Rattle.device.specs.declared.weighing.Load.{Load}
+use Rattle.device.specs.declared.call.Called.{Called}
+use Rattle.device.specs.declared.call.Refusal.the-variants as refusals
+use Rattle.device.specs.Calls.{numberOfRefusal, PowerOnCalled, ByteCalled, SampleCalled}
+use Rattle.line.specs.Unbounded.{Marked}
+use Rattle.history.specs.Tally.{Event, byteIs, sampleIs, startTally, accepts}
+
+-- what the tally is fed of a byte call and of a sample call: the answer is the first n bytes of the buffer
+abbrev pub byteEvent : ℕ → Bool → Called → List ℕ → Event
+byteEvent b bad r buffer =
+    record { input = byteIs (record { byte = b; faulty = bad }); refusal = numberOfRefusal (r .refusal); answer = take (r .count) buffer }
+
+abbrev pub sampleEvent : Load → Bool → Called → List ℕ → Event
+sampleEvent z stable r buffer =
+    record { input = sampleIs (z .0) stable; refusal = numberOfRefusal (r .refusal); answer = take (r .count) buffer }
+
+-- A list of calls from a state, as the tally is fed it: each with that profile, a lent buffer of any length and content, and the
+-- state that the call before it returned. What is known of a call is what its contract ensures, and nothing else.
+pub data Calls (p : Profile) : State → List Event → State → Type 0 where
+  done : {s : State} → Calls p s [] s
+  byteCall : {s : State} {b : ℕ} {bad : Bool} {room : List ℕ} {r : Called} {buffer : List ℕ} {es : List Event} {s′ : State}
+      → ByteCalled p s b bad room r buffer → Calls p (r .state) es s′ → Calls p s (byteEvent b bad r buffer ∷ es) s′
+  sampleCall : {s : State} {z : Load} {stable : Bool} {room : List ℕ} {r : Called} {buffer : List ℕ} {es : List Event} {s′ : State}
+      → SampleCalled p s z stable room r buffer → Calls p (r .state) es s′ → Calls p s (sampleEvent z stable r buffer ∷ es) s′
+
+-- Demand 3: over every list of calls from the state that a power-on not refused returned, the tally accepts
+abbrev pub Demand3 : Type 0
+Demand3 =
+    (p : Profile) (earlier : State) (room : List ℕ) (r : Called) (buffer : List ℕ)
+    → PowerOnCalled p earlier room r buffer
+    → r .refusal ≡ refusals.None
+    → (es : List Event) (s : State)
+    → Calls p (r .state) es s
+    → accepts p startTally es ≡ true

@@ -1,0 +1,79 @@
+-- End to end, over the lists of calls of demand 3: each line of each answer that the device sends is read by the host's reader, and
+-- the value that the reader hands back for a weight is as near to the exact weight as demand 3 asks of the sent one.
+-- Assumes nothing.
+use Prim.Native.Nat.{ℕ, _*_}
+use mathlib.Core.Path.{_≡_}
+use mathlib.Core.Bool.{Bool, true, false, cond, not, _&&_, _||_}
+use mathlib.Core.List.{List, [], _∷_, reverse}
+use lib.Dec.{leb, eqb}
+use lib.IntN.{natAbs, _-ℤ_}
+use Rattle.answer.specs.declared.answer.Answer.{Answer}
+use Rattle.answer.specs.declared.answer.Answer.the-variants.{Nothing, Plain, Weight, Refused, Text, Listed, CommandList, Versions}
+use Rattle.device.specs.declared.call.Called.{Called}
+use Rattle.device.specs.declared.call.Refusal.the-variants as refusals
+use Rattle.device.specs.declared.profile.Profile.{Profile}
+use Rattle.device.specs.declared.state.State.{State}
+use Rattle.device.specs.Calls.{PowerOnCalled}
+use Rattle.history.specs.Claim.{Calls}
+use Rattle.history.specs.Tally.{Event, Tally, startTally, numberFemtograms, exactWeight, allowance, tallied, afterEvent}
+use Rattle.host.specs.declared.reader.Read.{Read}
+use Rattle.host.specs.declared.reader.Read.the-variants as reads
+use Rattle.host.specs.Reads.{readLine}
+use Rattle.weight.specs.Ascii.{sameText}
+use Rattle.weight.specs.Units.{unitText}
+
+-- ---- an answer is split after every CR LF, a last unfinished piece included
+
+abbrev pub endsWithReturn : List ℕ → Bool
+endsWithReturn [] = false
+endsWithReturn (c ∷ l) = eqb c 13
+
+-- acc is the piece so far, its newest byte first
+unfoldable pub piecesAfter : List ℕ → List ℕ → List (List ℕ)
+piecesAfter [] [] = []
+piecesAfter (b ∷ acc) [] = reverse (b ∷ acc) ∷ []
+piecesAfter acc (c ∷ l) =
+    elim (eqb c 10 && endsWithReturn acc) [ true ↦ reverse (c ∷ acc) ∷ piecesAfter [] l | false ↦ piecesAfter (c ∷ acc) l ]
+
+unfoldable pub piecesOf : List ℕ → List (List ℕ)
+piecesOf l = piecesAfter [] l
+
+-- ---- what the reader hands back
+
+-- of a weight: the profile's unit, and a value within half a step (and half a microgram if the tare is typed) of the exact weight
+abbrev pub valueHolds : Profile → Tally → List ℕ → Answer → Bool
+valueHolds p t l Nothing = true
+valueHolds p t l (Plain h) = true
+valueHolds p t l (Weight h n) =
+    sameText (unitText (n .unit)) (unitText (p .resolution .unit))
+    && leb (2 * natAbs (numberFemtograms p (n .decimals) (n .places .0) -ℤ exactWeight t l)) (allowance p t)
+valueHolds p t l (Refused e) = true
+valueHolds p t l (Text c) = true
+valueHolds p t l (Listed last c) = true
+valueHolds p t l CommandList = true
+valueHolds p t l Versions = true
+
+abbrev pub pieceHolds : Profile → Tally → List ℕ → Read → Bool
+pieceHolds p t l (reads.Line a place) = valueHolds p t l a
+pieceHolds p t l reads.Refused = false
+
+unfoldable pub piecesHold : Profile → Tally → List (List ℕ) → Bool
+piecesHold p t [] = true
+piecesHold p t (l ∷ ls) = pieceHolds p t l (readLine l) && piecesHold p t ls
+
+-- ---- a list of calls
+
+unfoldable pub hostAccepts : Profile → Tally → List Event → Bool
+hostAccepts p t [] = true
+hostAccepts p t (e ∷ es) =
+    (not (eqb (e .refusal) 0) || piecesHold p (tallied p t (e .input) (e .answer)) (piecesOf (e .answer)))
+    && hostAccepts p (afterEvent p t e) es
+
+abbrev pub EndToEnd : Type 0
+EndToEnd =
+    (p : Profile) (earlier : State) (room : List ℕ) (r : Called) (buffer : List ℕ)
+    → PowerOnCalled p earlier room r buffer
+    → r .refusal ≡ refusals.None
+    → (es : List Event) (s : State)
+    → Calls p (r .state) es s
+    → hostAccepts p startTally es ≡ true

@@ -1,0 +1,4 @@
+pub mod Claim
+pub mod EndToEnd
+pub mod Tally
+pub mod Waits

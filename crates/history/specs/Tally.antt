@@ -1,0 +1,209 @@
+-- Document 01, "The tally of demand 3". It reads calls and answers alone, never the module's state.
+-- Assumes nothing.
+use Prim.Native.Nat.{ℕ, zero, suc, _+_, _-_, _*_, _^_}
+use mathlib.Core.Bool.{Bool, true, false, cond, not, _&&_, _||_}
+use mathlib.Core.List.{List, [], _∷_, _++_, map}
+use lib.Dec.{leb, eqb}
+use lib.IntN.{ℤ, pos, natAbs, _-ℤ_, _*ℤ_}
+use lib.ListN.{length, take, drop}
+use Rattle.device.specs.declared.profile.Profile.{Profile}
+use Rattle.line.specs.Unbounded.{Marked, endsUnbounded, afterMarked, finishedLine, byteIn, anyFaulty}
+use Rattle.line.specs.Judging.{beforeSpace, afterSpace}
+use Rattle.weight.specs.Ascii.{ascii, sameText}
+use Rattle.weight.specs.Units.{nanogramsOf, unitText}
+use Rattle.weight.specs.Rounding.{stepFemtograms, exactFemtograms}
+use Rattle.weight.specs.Reading.{readField, isDecimal, decimalsIn, valueIn}
+use Rattle.weight.specs.Typed.{typedFemtograms}
+use Rattle.weight.specs.declared.reading.FieldRead.{FieldRead}
+use Rattle.weight.specs.declared.reading.FieldRead.the-variants.{Number, NoNumber}
+
+-- ---- what it is fed: each call's byte or sample with its mark, its refusal number and its answer
+
+pub data Input : Type 0 where
+  byteIs : Marked → Input
+  sampleIs : ℤ → Bool → Input
+
+pub record Event : Type 0 where
+  pub input : Input
+  pub refusal : ℕ
+  pub answer : List ℕ
+
+-- ---- what it keeps
+
+-- the latest load, if there is one
+pub data Latest : Type 0 where
+  none : Latest
+  load : ℤ → Latest
+
+-- the line so far (the newest byte first), the latest load, zero in micrograms, tare in femtograms (so that a typed one is
+-- unrounded) and whether the tare is typed
+pub record Tally : Type 0 where
+  pub line : List Marked
+  pub latest : Latest
+  pub zero : ℤ
+  pub tare : ℤ
+  pub typed : Bool
+
+-- it starts with an empty line, no load, zero 0, tare 0, not typed
+abbrev pub startTally : Tally
+startTally = record { line = []; latest = none; zero = pos 0; tare = pos 0; typed = false }
+
+abbrev pub withTareOf : Tally → ℤ → Bool → Tally
+withTareOf t tare typed = record { line = t .line; latest = t .latest; zero = t .zero; tare = tare; typed = typed }
+
+abbrev pub withZeroOf : Tally → ℤ → Tally
+withZeroOf t z = record { line = t .line; latest = t .latest; zero = z; tare = pos 0; typed = false }
+
+abbrev pub chosenTally : Bool → Tally → Tally → Tally
+chosenTally true a b = a
+chosenTally false a b = b
+
+-- ---- A sample: its load becomes the latest load. A byte joins the line with its mark
+
+abbrev pub taken : Tally → Input → Tally
+taken t (byteIs m) = record { line = afterMarked (t .line) m; latest = t .latest; zero = t .zero; tare = t .tare; typed = t .typed }
+taken t (sampleIs z stable) = record { line = t .line; latest = load z; zero = t .zero; tare = t .tare; typed = t .typed }
+
+-- whether this call ended a line, and what that line held
+abbrev pub ends : Tally → Input → Bool
+ends t (byteIs m) = endsUnbounded (t .line) m
+ends t (sampleIs z stable) = false
+
+abbrev pub ended : Tally → Input → List Marked
+ended t (byteIs m) = finishedLine (t .line)
+ended t (sampleIs z stable) = []
+
+-- the bytes of the line that this call ended
+abbrev pub endedText : Tally → Input → List ℕ
+endedText t i = map byteIn (ended t i)
+
+-- ---- If this call ended a line that is the one good byte @: tare 0
+
+abbrev pub isResetLine : List Marked → Bool
+isResetLine f = not (anyFaulty f) && sameText (map byteIn f) (ascii "@")
+
+unfoldable pub afterReset : Tally → Input → Tally → Tally
+afterReset before i t = chosenTally (ends before i && isResetLine (ended before i)) (withTareOf t (pos 0) false) t
+
+-- ---- A command is granted by an answer that begins as follows
+
+abbrev pub begins : List ℕ → List ℕ → Bool
+begins [] l = true
+begins (c ∷ h) [] = false
+begins (c ∷ h) (b ∷ l) = eqb c b && begins h l
+
+-- Z A, ZI S, ZI D
+abbrev pub grantsZero : List ℕ → Bool
+grantsZero l = begins (ascii "Z A") l || begins (ascii "ZI S") l || begins (ascii "ZI D") l
+
+-- T S, TI S, TI D
+abbrev pub grantsTare : List ℕ → Bool
+grantsTare l = begins (ascii "T S") l || begins (ascii "TI S") l || begins (ascii "TI D") l
+
+-- TAC A
+abbrev pub grantsClear : List ℕ → Bool
+grantsClear l = begins (ascii "TAC A") l
+
+-- TA A
+abbrev pub tellsTare : List ℕ → Bool
+tellsTare l = begins (ascii "TA A") l
+
+-- S S, S D
+abbrev pub tellsNet : List ℕ → Bool
+tellsNet l = begins (ascii "S S") l || begins (ascii "S D") l
+
+-- the latest load; 0 where there is none, which `loaded` excludes
+abbrev pub latestOf : Tally → ℤ
+latestOf t = elim (t .latest) [ none ↦ pos 0 | load z ↦ z ]
+
+abbrev pub isLoaded : Tally → Bool
+isLoaded t = elim (t .latest) [ none ↦ false | load z ↦ true ]
+
+-- the number in the line TA number unit, in femtograms, unrounded
+abbrev pub typedText : List ℕ → List ℕ
+typedText l = beforeSpace (afterSpace l)
+
+abbrev pub typedTare : Profile → List ℕ → ℤ
+typedTare p l = pos (typedFemtograms (p .resolution .unit) (decimalsIn (typedText l)) (valueIn (typedText l)))
+
+-- TA A to a line other than TA
+abbrev pub grantsTyped : Tally → Input → List ℕ → Bool
+grantsTyped t i l = tellsTare l && not (sameText (endedText t i) (ascii "TA"))
+
+unfoldable pub granted : Profile → Tally → Input → List ℕ → Tally → Tally
+granted p before i l t =
+    chosenTally (grantsZero l) (withZeroOf t (latestOf t))
+    (chosenTally (grantsTare l) (withTareOf t (exactFemtograms (latestOf t -ℤ t .zero)) false)
+    (chosenTally (grantsClear l) (withTareOf t (pos 0) false)
+    (chosenTally (grantsTyped before i l) (withTareOf t (typedTare p (endedText before i)) true) t)))
+
+-- ---- Then a weight answer is compared
+
+abbrev pub isWeightAnswer : List ℕ → Bool
+isWeightAnswer l = tellsNet l || grantsTare l || tellsTare l
+
+-- the identification and the status, up to the second space
+abbrev pub headLength : List ℕ → ℕ
+headLength l = length (beforeSpace l) + 1 + length (beforeSpace (afterSpace l))
+
+-- its ten characters, and what follows them
+abbrev pub tenOf : List ℕ → List ℕ
+tenOf l = take 10 (drop (headLength l + 1) l)
+
+abbrev pub restOf : List ℕ → List ℕ
+restOf l = drop (headLength l + 11) l
+
+-- identification, space, status, space, ten characters, space, the profile's unit, CR LF
+abbrev pub isWhole : Profile → List ℕ → Bool
+isWhole p l = sameText (restOf l) (ascii " " ++ unitText (p .resolution .unit) ++ ascii "\r\n")
+
+-- a number of last places with d decimals, in femtograms
+abbrev pub numberFemtograms : Profile → ℕ → ℤ → ℤ
+numberFemtograms p d n = n *ℤ pos (nanogramsOf (p .resolution .unit) * 10 ^ (6 - d))
+
+-- the exact weight: the latest load - zero - tare after S S and S D, the tare after the others
+abbrev pub exactWeight : Tally → List ℕ → ℤ
+exactWeight t l = cond (tellsNet l) (exactFemtograms (latestOf t -ℤ t .zero) -ℤ t .tare) (t .tare)
+
+-- half a step, plus half a microgram if the tare is typed; doubled
+abbrev pub allowance : Profile → Tally → ℕ
+allowance p t = stepFemtograms (p .resolution) + cond (t .typed) 1_000_000_000 0
+
+-- number and exact weight differ by at most that
+abbrev pub compares : Profile → Tally → List ℕ → FieldRead → Bool
+compares p t l (Number d n) = leb (2 * natAbs (numberFemtograms p d (n .0) -ℤ exactWeight t l)) (allowance p t)
+compares p t l NoNumber = false
+
+-- an answer that begins like a weight and is none is refused
+unfoldable pub weightHolds : Profile → Tally → List ℕ → Bool
+weightHolds p t l = not (isWeightAnswer l) || (isWhole p l && compares p t l (readField (tenOf l)))
+
+-- No answer that needs the latest load comes before one
+unfoldable pub loadHolds : Tally → List ℕ → Bool
+loadHolds t l = not (grantsZero l || grantsTare l || tellsNet l) || isLoaded t
+
+-- TA A comes at the end of a line, and one that sets a tare has a number in it
+unfoldable pub typedHolds : Tally → Input → List ℕ → Bool
+typedHolds t i l =
+    not (tellsTare l) || (ends t i && (not (grantsTyped t i l) || isDecimal (typedText (endedText t i))))
+
+-- ---- one call, and a list of them
+
+-- the tally after a call that was not refused
+unfoldable pub tallied : Profile → Tally → Input → List ℕ → Tally
+tallied p t i l = granted p t i l (afterReset t i (taken t i))
+
+unfoldable pub holds : Profile → Tally → Input → List ℕ → Bool
+holds p t i l = loadHolds (taken t i) l && typedHolds t i l && weightHolds p (tallied p t i l) l
+
+-- A refused call changes nothing in it
+unfoldable pub afterEvent : Profile → Tally → Event → Tally
+afterEvent p t e = chosenTally (eqb (e .refusal) 0) (tallied p t (e .input) (e .answer)) t
+
+unfoldable pub eventHolds : Profile → Tally → Event → Bool
+eventHolds p t e = not (eqb (e .refusal) 0) || holds p t (e .input) (e .answer)
+
+-- the tally accepts a list of calls
+unfoldable pub accepts : Profile → Tally → List Event → Bool
+accepts p t [] = true
+accepts p t (e ∷ es) = eventHolds p t e && accepts p (afterEvent p t e) es

@@ -4,11 +4,11 @@ use mathlib.Core.Path.{_≡_}
 use mathlib.Core.Bool.{Bool, true, _&&_}
 use Prim.Native.Nat.{_≤_}
 use native.Mathlib.Nat.{le-trans}
-use Rattle.device.specs.declared.profile.Profile.{Profile}
-use Rattle.device.specs.declared.state.State.{State}
-use Rattle.device.specs.Profiles.{profileAllowed}
+use Rattle.model.specs.declared.profile.Profile.{Profile}
+use Rattle.model.specs.declared.state.State.{State}
+use Rattle.model.specs.Profiles.{profileAllowed}
 use Rattle.device.specs.Ranges.{InReach}
-use Rattle.device.specs.States.{
+use Rattle.model.specs.States.{
   stateAllowed,
   zeroAllowed,
   tareAllowed,
@@ -17,8 +17,8 @@ use Rattle.device.specs.States.{
   waitingAllowed,
   repeatingAllowed,
 }
-use Rattle.device.proofs.ProfileFacts.{allowed-profile}
-use Rattle.device.proofs.StateFacts.{allowed-state}
+use Rattle.model.proofs.ProfileFacts.{allowed-profile}
+use Rattle.model.proofs.StateFacts.{allowed-state}
 use Rattle.weight.proofs.Allowed.{both-left, both-right}
 
 module _ (p : Profile) (s : State) (e : profileAllowed p ≡ true) (f : stateAllowed p s ≡ true) where

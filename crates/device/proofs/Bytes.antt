@@ -4,11 +4,11 @@ use Prim.Native.Nat.{ℕ, _≤_}
 use mathlib.Core.Path.{_≡_}
 use mathlib.Core.Bool.{Bool, true, false}
 use Rattle.answer.specs.declared.answer.Answer.the-variants as answers
-use Rattle.device.specs.declared.profile.Profile.{Profile}
+use Rattle.model.specs.declared.profile.Profile.{Profile}
 use Rattle.device.specs.declared.react.Reaction.{Reaction}
-use Rattle.device.specs.declared.state.State.{State}
+use Rattle.model.specs.declared.state.State.{State}
 use Rattle.device.specs.Reactions.{byteReaction, performed, reaction, withLine}
-use Rattle.device.specs.States.{isPending}
+use Rattle.model.specs.States.{isPending}
 use Rattle.device.proofs.LineLength.{received-short}
 use Rattle.line.specs.declared.receive.Received.{Received}
 use Rattle.line.specs.Judging.{judgement}

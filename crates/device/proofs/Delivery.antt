@@ -12,15 +12,15 @@ use Rattle.answer.specs.declared.answer.Answer.{Answer}
 use Rattle.answer.specs.declared.emit.Emitted.{Emitted}
 use Rattle.device.specs.declared.call.Called.{Called}
 use Rattle.device.specs.declared.call.Refusal.the-variants as refusals
-use Rattle.device.specs.declared.profile.Profile.{Profile}
-use Rattle.device.specs.declared.profile.Text20.{Text20}
-use Rattle.device.specs.declared.profile.Text40.{Text40}
+use Rattle.model.specs.declared.profile.Profile.{Profile}
+use Rattle.model.specs.declared.profile.Text20.{Text20}
+use Rattle.model.specs.declared.profile.Text40.{Text40}
 use Rattle.device.specs.declared.react.Reaction.{Reaction}
-use Rattle.device.specs.declared.state.State.{State}
+use Rattle.model.specs.declared.state.State.{State}
 use Rattle.device.specs.Calls.{identityIn, answerBytes, delivered}
 use Rattle.line.specs.Judging.{isPrintable}
 use Rattle.weight.proofs.Allowed.{both-left}
-use Rattle.device.specs.Profiles.{identityText, textOf20, textOf40, textAllowed20, textAllowed40}
+use Rattle.model.specs.Profiles.{identityText, textOf20, textOf40, textAllowed20, textAllowed40}
 
 module _ (p : Profile) (a : Answer) where
   bytes-with : (t : List ℕ) → identityText p (identityIn a) ≡ t → answerBytes p a ≡ lineOf a t

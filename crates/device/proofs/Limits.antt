@@ -10,8 +10,8 @@ use Rattle.answer.specs.declared.answer.Answer.the-variants.{Plain, Weight}
 use Rattle.answer.specs.declared.answer.Number.{Number}
 use Rattle.answer.specs.declared.answer.Status.{Status}
 use Rattle.answer.specs.declared.answer.Status.the-variants.{Over, Under}
-use Rattle.device.specs.declared.profile.Profile.{Profile}
-use Rattle.device.specs.declared.weighing.Weighing.{Weighing}
+use Rattle.model.specs.declared.profile.Profile.{Profile}
+use Rattle.model.specs.declared.weighing.Weighing.{Weighing}
 use Rattle.device.specs.declared.weighing.Measured.{Measured}
 use Rattle.device.specs.Weighings.{grossOf, micrograms, netOf, headOf, stability, numberOf, weighed, withTare, withZero, zeroed, tared}
 use Rattle.weight.specs.declared.rounding.Micrograms.{Micrograms}

@@ -7,12 +7,12 @@ use lib.IntN.{pos}
 use Rattle.answer.specs.declared.answer.Answer.{Answer}
 use Rattle.answer.specs.declared.answer.Answer.the-variants.{Plain}
 use Rattle.answer.specs.declared.answer.Status.the-variants.{A}
-use Rattle.device.specs.declared.profile.Profile.{Profile}
+use Rattle.model.specs.declared.profile.Profile.{Profile}
 use Rattle.device.specs.declared.react.Reaction.{Reaction}
-use Rattle.device.specs.declared.state.Pending.the-variants.{Tare}
-use Rattle.device.specs.declared.state.State.{State}
+use Rattle.model.specs.declared.state.Pending.the-variants.{Tare}
+use Rattle.model.specs.declared.state.State.{State}
 use Rattle.device.specs.declared.weighing.Measured.{Measured}
-use Rattle.device.specs.declared.weighing.Weighing.{Weighing}
+use Rattle.model.specs.declared.weighing.Weighing.{Weighing}
 use Rattle.device.specs.Reactions.{begun, informed, measuredReaction, reaction, run, showing, taring, weighing, withWeighing, zeroing}
 use Rattle.device.specs.Weighings.{headOf, tareAnswer, tared, withTare}
 

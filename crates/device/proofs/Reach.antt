@@ -7,7 +7,7 @@ use lib.IntN.{ℤ, pos, negsuc, natAbs, _-ℤ_}
 use lib.Signed.{natAbs-le}
 use mir.Syntax.{w32, w64}
 use mir.Val.{SFits}
-use Rattle.device.specs.declared.weighing.Weighing.{Weighing}
+use Rattle.model.specs.declared.weighing.Weighing.{Weighing}
 use Rattle.device.specs.Ranges.{InReach}
 use Rattle.device.specs.Weighings.{grossOf, netOf}
 use Rattle.weight.proofs.Nearness.{up, down, difference-parts}

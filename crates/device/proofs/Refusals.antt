@@ -8,10 +8,10 @@ use Rattle.answer.specs.declared.answer.Answer.the-variants.{Text}
 use Rattle.device.specs.declared.call.Called.{Called}
 use Rattle.device.specs.declared.call.Refusal.{Refusal}
 use Rattle.device.specs.declared.call.Refusal.the-variants as refusals
-use Rattle.device.specs.declared.profile.Profile.{Profile}
+use Rattle.model.specs.declared.profile.Profile.{Profile}
 use Rattle.device.specs.declared.react.Reaction.{Reaction}
-use Rattle.device.specs.declared.state.State.{State}
-use Rattle.device.specs.declared.weighing.Load.{Load}
+use Rattle.model.specs.declared.state.State.{State}
+use Rattle.model.specs.declared.weighing.Load.{Load}
 use Rattle.device.specs.Calls.{
   Outcome,
   refused,
@@ -22,9 +22,9 @@ use Rattle.device.specs.Calls.{
   byteOutcome,
   sampleOutcome,
 }
-use Rattle.device.specs.Profiles.{profileAllowed}
+use Rattle.model.specs.Profiles.{profileAllowed}
 use Rattle.device.specs.Reactions.{byteReaction, sampleReaction, reaction}
-use Rattle.device.specs.States.{stateAllowed, startState}
+use Rattle.model.specs.States.{stateAllowed, startState}
 
 module _ (p : Profile) (s : State) (room : List ℕ) where
   profile-refuses : profileAllowed p ≡ false → (next : Outcome) → ofProfile p s room next ≡ refused refusals.Profile s room

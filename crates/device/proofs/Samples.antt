@@ -6,16 +6,16 @@ use mathlib.Core.Bool.{Bool, true, false, cond}
 use borrow.Author.Tests.{ltb-true}
 use lib.Dec.{ltb}
 use Rattle.answer.specs.declared.answer.Answer.the-variants as answers
-use Rattle.device.specs.declared.profile.Profile.{Profile}
+use Rattle.model.specs.declared.profile.Profile.{Profile}
 use Rattle.device.specs.declared.react.Reaction.{Reaction}
-use Rattle.device.specs.declared.state.State.{State}
-use Rattle.device.specs.declared.weighing.Load.{Load}
-use Rattle.device.specs.declared.weighing.Weighing.{Weighing}
+use Rattle.model.specs.declared.state.State.{State}
+use Rattle.model.specs.declared.weighing.Load.{Load}
+use Rattle.model.specs.declared.weighing.Weighing.{Weighing}
 use Rattle.device.specs.Ranges.{InReach}
 use Rattle.device.specs.Reactions.{chosenReaction, measuredReaction, notWaiting, reaction, sampleReaction, settled, waited, withWaiting, withWeighing}
-use Rattle.device.specs.States.{isPending, waitingAllowed}
+use Rattle.model.specs.States.{isPending, waitingAllowed}
 use Rattle.device.specs.Weighings.{weighed, withSample}
-use Rattle.device.proofs.Conjunctions.{implied}
+use Rattle.model.proofs.Conjunctions.{implied}
 
 module _ (s : State) (load : Load) (stable : Bool) {w : Weighing} {t : State} (new : w ≡ withSample (s .weighing) load stable)
     (put : t ≡ withWeighing s w) where

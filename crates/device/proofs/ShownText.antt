@@ -11,7 +11,7 @@ use borrow.Author.Tests.{le-leb}
 use lib.Dec.{leb}
 use lib.ListN.{length, length-drop, length-take, take, drop, getD, set, take-append-drop}
 use lib.Seq.{drop-append-le, length-take-le, paste, paste-suc, take-all, take-append-le, take-at}
-use Rattle.device.specs.Profiles.{textAllowed20}
+use Rattle.model.specs.Profiles.{textAllowed20}
 use Rattle.device.proofs.LineVerdicts.{good-bytes, goodMarks}
 use Rattle.line.specs.declared.receive.Line.{Line}
 use Rattle.line.specs.Judging.{betweenQuotes, isPrintable}

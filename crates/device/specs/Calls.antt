@@ -11,12 +11,12 @@ use Rattle.answer.specs.Lines.{lineOf, fitsRoom, laidIn}
 use Rattle.device.specs.declared.call.Refusal.{Refusal}
 use Rattle.device.specs.declared.call.Refusal.the-variants as refusals
 use Rattle.device.specs.declared.call.Called.{Called}
-use Rattle.device.specs.declared.profile.Profile.{Profile}
+use Rattle.model.specs.declared.profile.Profile.{Profile}
 use Rattle.device.specs.declared.react.Reaction.{Reaction}
-use Rattle.device.specs.declared.state.State.{State}
-use Rattle.device.specs.declared.weighing.Load.{Load}
-use Rattle.device.specs.Profiles.{profileAllowed, identityText}
-use Rattle.device.specs.States.{stateAllowed, startState}
+use Rattle.model.specs.declared.state.State.{State}
+use Rattle.model.specs.declared.weighing.Load.{Load}
+use Rattle.model.specs.Profiles.{profileAllowed, identityText}
+use Rattle.model.specs.States.{stateAllowed, startState}
 use Rattle.device.specs.Reactions.{byteReaction, sampleReaction, reaction}
 
 -- the paper's number

@@ -4,7 +4,7 @@ use Prim.Native.Nat.{_≤_}
 use mathlib.Core.Bool.{Bool, true}
 use lib.Dec.{leb}
 use lib.IntN.{natAbs}
-use Rattle.device.specs.declared.weighing.Weighing.{Weighing}
+use Rattle.model.specs.declared.weighing.Weighing.{Weighing}
 use Rattle.line.specs.declared.judge.Verdict.{Verdict}
 use Rattle.line.specs.declared.judge.Verdict.the-variants.{Refused, Reset, Busy, Wrong, NoSample, Run, Preset, Show}
 

@@ -3,16 +3,16 @@
 ghost use mathlib.Core.Path.{_≡_};
 ghost use Rattle.device.specs.Calls.{refusedCall, PowerOnCalled, ByteCalled, SampleCalled};
 use crate::deliver::deliver;
-use crate::profile::Profile;
-use crate::profile::is_profile_allowed;
 use crate::react::Reaction;
 use crate::react::byte_reaction;
 use crate::react::sample_reaction;
-use crate::state::State;
-use crate::state::is_state_allowed;
-use crate::state::start_state;
-use crate::weighing::Load;
 use answer::Answer;
+use model::Load;
+use model::Profile;
+use model::State;
+use model::is_profile_allowed;
+use model::is_state_allowed;
+use model::start_state;
 
 // Document 01's refusal numbers 1, 2 and 3; 0 is no refusal.
 pub enum Refusal {

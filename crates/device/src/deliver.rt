@@ -4,17 +4,17 @@ ghost use mathlib.Core.Bool.{true};
 ghost use Prim.Native.Nat.{_≤_};
 ghost use Rattle.answer.specs.Lines.{lineOf, emitted, laidIn};
 ghost use Rattle.device.specs.Calls.{identityIn, answerBytes, delivered};
-ghost use Rattle.device.specs.Profiles.{profileAllowed, textOf20, textOf40};
+ghost use Rattle.model.specs.Profiles.{profileAllowed, textOf20, textOf40};
 use crate::call::Called;
 use crate::call::Refusal;
-use crate::profile::Profile;
-use crate::profile::Text20;
-use crate::profile::Text40;
 use crate::react::Reaction;
-use crate::state::State;
 use answer::Answer;
 use answer::Emitted;
 use answer::emit_answer;
+use model::Profile;
+use model::State;
+use model::Text20;
+use model::Text40;
 
 // The command whose text goes with an answer, and 0 for every other.
 fn identity_in(answer: Answer) -> u8
@@ -85,12 +85,12 @@ pub fn deliver(profile: Profile, given: State, reaction: Reaction, out: &mut [u8
     ensures { λ r. ⌜ now (out .exit) ≡ delivered profile given reaction (now (out .entry)) .buffer ⌝ }
 {
     let answer = reaction.answer;
+    let due = reaction.state;
     let emitted = emit_due(profile, answer, out);
     if emitted.fits {
-        let state = reaction.state;
         return Called {
             refusal: Refusal::None,
-            state,
+            state: due,
             count: emitted.count,
         };
     }

@@ -1,11 +1,11 @@
 // The groups of the state, each put back alone.
 ghost use mathlib.Core.Path.{_≡_};
 ghost use Rattle.device.specs.Reactions as meaning;
-use crate::state::Display;
-use crate::state::State;
-use crate::state::Waiting;
-use crate::weighing::Weighing;
 use line::Line;
+use model::Display;
+use model::State;
+use model::Waiting;
+use model::Weighing;
 
 pub fn with_line(state: State, line: Line) -> State
     ensures { λ r. ⌜ r ≡ meaning.withLine state line ⌝ }

@@ -9,14 +9,10 @@ ghost use Rattle.device.specs.Reactions as meaning;
 ghost use Rattle.device.specs.Weighings as weights;
 use crate::groups::with_display;
 use crate::groups::with_weighing;
-use crate::profile::Profile;
-use crate::profile::Text20;
 use crate::react::Reaction;
 use crate::react::answered;
 use crate::run::run;
 use crate::run::weight_shown;
-use crate::state::Display;
-use crate::state::State;
 use crate::wait::not_waiting;
 use crate::weighing::plain;
 use crate::weighing::tare_answer;
@@ -30,6 +26,10 @@ use answer::SIR;
 use answer::Status;
 use line::Line;
 use line::Verdict;
+use model::Display;
+use model::Profile;
+use model::State;
+use model::Text20;
 use weight::Micrograms;
 
 // The name's place; for SI and SIR that of S.

@@ -4,7 +4,7 @@ ghost use mathlib.Core.Bool.{true, cond};
 ghost use Prim.Native.Nat.{_<_, _≤_};
 ghost use Rattle.device.specs.Ranges.{InReach};
 ghost use Rattle.device.specs.Reactions as meaning;
-ghost use Rattle.device.specs.States.{isPending, waitingAllowed};
+ghost use Rattle.model.specs.States.{isPending, waitingAllowed};
 ghost use Rattle.device.specs.Weighings as weights;
 ghost use Rattle.line.specs.Judging.{judgement};
 ghost use Rattle.line.specs.Receiving.{clearedLine};
@@ -12,13 +12,9 @@ use crate::groups::with_line;
 use crate::groups::with_waiting;
 use crate::groups::with_weighing;
 use crate::perform::performed;
-use crate::profile::Profile;
-use crate::state::State;
-use crate::state::is_pending;
 use crate::wait::not_waiting;
 use crate::wait::settled;
 use crate::wait::waited;
-use crate::weighing::Load;
 use crate::weighing::Measured;
 use crate::weighing::weighed;
 use crate::weighing::with_sample;
@@ -27,6 +23,10 @@ use line::Line;
 use line::cleared;
 use line::judge_line;
 use line::receive_byte;
+use model::Load;
+use model::Profile;
+use model::State;
+use model::is_pending;
 
 pub struct Reaction {
     pub state: State,

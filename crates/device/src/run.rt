@@ -7,13 +7,9 @@ ghost use Rattle.device.specs.Reactions as meaning;
 use crate::groups::with_display;
 use crate::groups::with_repeating;
 use crate::groups::with_weighing;
-use crate::profile::Profile;
 use crate::react::Reaction;
 use crate::react::answered;
 use crate::react::measured_reaction;
-use crate::state::Display;
-use crate::state::Pending;
-use crate::state::State;
 use crate::wait::begun;
 use crate::weighing::plain;
 use crate::weighing::stability;
@@ -34,6 +30,10 @@ use answer::T;
 use answer::TAC;
 use answer::TI;
 use answer::ZI;
+use model::Display;
+use model::Pending;
+use model::Profile;
+use model::State;
 use weight::Micrograms;
 
 fn information(command: u8) -> Answer

@@ -4,15 +4,10 @@ ghost use Prim.Native.Nat.{_<_};
 ghost use Rattle.device.specs.Ranges.{InReach};
 ghost use Rattle.device.specs.Reactions as meaning;
 use crate::groups::with_waiting;
-use crate::profile::Profile;
 use crate::react::Reaction;
 use crate::react::answered;
 use crate::react::measured_reaction;
-use crate::state::Pending;
-use crate::state::State;
-use crate::state::Waiting;
 use crate::weighing::Measured;
-use crate::weighing::Weighing;
 use crate::weighing::plain;
 use crate::weighing::tared;
 use crate::weighing::unchanged;
@@ -23,6 +18,11 @@ use answer::S;
 use answer::Status;
 use answer::T;
 use answer::Z;
+use model::Pending;
+use model::Profile;
+use model::State;
+use model::Waiting;
+use model::Weighing;
 
 // The identification of what waits.
 fn place_of(pending: Pending) -> u8

@@ -4,32 +4,22 @@ ghost use lib.IntN.{pos, negℤ};
 ghost use lib.Signed.{ltZ};
 ghost use Rattle.device.specs.Ranges.{InReach};
 ghost use Rattle.device.specs.Weighings as meaning;
-use crate::profile::Profile;
-use crate::signed::above;
-use crate::signed::from_count;
-use crate::signed::from_load;
 use crate::signed::minus;
-use crate::signed::negative_of;
 use answer::Answer;
 use answer::Head;
 use answer::Number;
 use answer::S;
 use answer::Status;
 use answer::TA;
+use model::Load;
+use model::Profile;
+use model::Weighing;
+use model::above;
+use model::from_count;
+use model::from_load;
+use model::negative_of;
 use weight::Micrograms;
 use weight::printed_number;
-
-// A sample's load, in micrograms.
-pub struct Load(pub i32);
-
-pub struct Weighing {
-    pub zero: Micrograms,
-    pub tare: Micrograms,
-    // Whether there was a sample since power-on, and the latest one.
-    pub sampled: bool,
-    pub load: Load,
-    pub stable: bool,
-}
 
 // What a command made of the weighing, and its answer.
 pub struct Measured {

@@ -4,9 +4,9 @@ use Prim.Native.Nat.{ℕ}
 use mathlib.Core.Path.{_≡_}
 use mathlib.Core.Bool.{Bool, true}
 use mathlib.Core.List.{List, [], _∷_}
-use Rattle.device.specs.declared.profile.Profile.{Profile}
-use Rattle.device.specs.declared.state.State.{State}
-use Rattle.device.specs.declared.weighing.Load.{Load}
+use Rattle.model.specs.declared.profile.Profile.{Profile}
+use Rattle.model.specs.declared.state.State.{State}
+use Rattle.model.specs.declared.weighing.Load.{Load}
 use Rattle.device.specs.declared.call.Called.{Called}
 use Rattle.device.specs.Calls.{ByteCalled, SampleCalled}
 use Rattle.history.specs.Claim.{Calls, done, byteCall, sampleCall, byteEvent, sampleEvent}

@@ -17,7 +17,7 @@ use Rattle.answer.specs.declared.answer.Status.{Status}
 use Rattle.answer.specs.declared.answer.Status.the-variants.{A, B, S, D, I, L, Over, Under}
 use Rattle.answer.specs.Commands.{names}
 use Rattle.answer.specs.Lines.{lineEnd, statusText, headText, listedLine, listedFrom, lineOf}
-use Rattle.device.specs.declared.profile.Profile.{Profile}
+use Rattle.model.specs.declared.profile.Profile.{Profile}
 use Rattle.device.specs.Weighings.{headOf, placeS, placeZ, placeZI, placeD, placeDW, placeT, placeTA, placeTAC, placeTI}
 use Rattle.device.specs.Calls.{answerBytes}
 use Rattle.weight.specs.Ascii.{ascii}

@@ -15,20 +15,20 @@ use Rattle.answer.specs.declared.answer.Answer.the-variants.{Plain, Weight, Com
 use Rattle.answer.specs.declared.answer.Answer.the-variants as answers
 use Rattle.answer.specs.declared.answer.Status.{Status}
 use Rattle.answer.specs.declared.answer.Status.the-variants.{A, S, D, I, L, Over, Under}
-use Rattle.device.specs.declared.profile.Profile.{Profile}
-use Rattle.device.specs.declared.profile.Text20.{Text20}
-use Rattle.device.specs.declared.profile.Text40.{Text40}
+use Rattle.model.specs.declared.profile.Profile.{Profile}
+use Rattle.model.specs.declared.profile.Text20.{Text20}
+use Rattle.model.specs.declared.profile.Text40.{Text40}
 use Rattle.device.specs.declared.react.Reaction.{Reaction}
-use Rattle.device.specs.declared.state.Pending.{Pending}
-use Rattle.device.specs.declared.state.Pending.the-variants.{Nothing, Weigh, Zero, Tare}
-use Rattle.device.specs.declared.state.State.{State}
-use Rattle.device.specs.declared.weighing.Load.{Load}
-use Rattle.device.specs.declared.weighing.Weighing.{Weighing}
-use Rattle.device.specs.Profiles.{profileAllowed, textOf20, textOf40, textAllowed20, textAllowed40}
+use Rattle.model.specs.declared.state.Pending.{Pending}
+use Rattle.model.specs.declared.state.Pending.the-variants.{Nothing, Weigh, Zero, Tare}
+use Rattle.model.specs.declared.state.State.{State}
+use Rattle.model.specs.declared.weighing.Load.{Load}
+use Rattle.model.specs.declared.weighing.Weighing.{Weighing}
+use Rattle.model.specs.Profiles.{profileAllowed, textOf20, textOf40, textAllowed20, textAllowed40}
 use Rattle.device.specs.Reactions.{withLine, withRepeating, placeOfPending, settled, begun, weighing, zeroing, taring, run, identificationOf, performed, byteReaction, waited, sampleReaction}
-use Rattle.device.specs.States.{isPending}
+use Rattle.model.specs.States.{isPending}
 use Rattle.device.specs.Weighings.{placeS, placeZ, placeZI, placeDW, placeT, placeTA, placeTAC, placeTI, headOf, stability, grossOf, netOf, numberOf, inLimits, weighed, withSample, zeroed, tared, tareAnswer}
-use Rattle.device.proofs.ProfileFacts.{AllowedProfile, allowed-profile}
+use Rattle.model.proofs.ProfileFacts.{AllowedProfile, allowed-profile}
 use Rattle.history.proofs.AnswerKinds.{Tests, weighed-weighs, tared-tares, tared-now-tares, told-tells}
 use Rattle.history.proofs.DueWeights.{TareInRange, net-printable, gross-printable, tare-printable}
 use Rattle.history.proofs.HostReads.{Heard, nothing-heard, list-heard, plain-heard, refused-heard, versions-heard, text-heard, weight-heard}

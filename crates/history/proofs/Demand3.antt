@@ -2,9 +2,9 @@
 -- Assumes nothing.
 use mathlib.Core.Path.{refl}
 use lib.IntN.{pos}
-use Rattle.device.specs.declared.profile.Profile.{Profile}
-use Rattle.device.specs.declared.state.State.{State}
-use Rattle.device.specs.States.{startState}
+use Rattle.model.specs.declared.profile.Profile.{Profile}
+use Rattle.model.specs.declared.state.State.{State}
+use Rattle.model.specs.States.{startState}
 use Rattle.line.proofs.Kept.{keeps-empty}
 use Rattle.weight.proofs.Nearness.{near-refl}
 use Rattle.history.specs.Claim.{Demand3}

@@ -8,8 +8,8 @@ use borrow.Author.Tests.{leb-true, le-leb, ltb-false}
 use lib.Dec.{leb}
 use lib.IntN.{ℤ, pos, negsuc, negℤ, natAbs, _-ℤ_}
 use lib.Signed.{leZ, ltZ}
-use Rattle.device.specs.declared.profile.Profile.{Profile}
-use Rattle.device.specs.Profiles.{profileAllowed, capacityAllowed, underloadAllowed, zeroRangeAllowed, timeoutAllowed, netsAllowed, textsAllowed}
+use Rattle.model.specs.declared.profile.Profile.{Profile}
+use Rattle.model.specs.Profiles.{profileAllowed, capacityAllowed, underloadAllowed, zeroRangeAllowed, timeoutAllowed, netsAllowed, textsAllowed}
 use Rattle.weight.specs.Rounding.{allowedResolution, netLimit}
 use Rattle.weight.specs.Printing.{printable}
 use Rattle.weight.proofs.Allowed.{both-left, both-right}

@@ -8,14 +8,14 @@ use mathlib.Core.List.{List}
 use lib.IntN.{pos}
 use lib.ListN.{take}
 use Rattle.device.specs.declared.call.Called.{Called}
-use Rattle.device.specs.declared.profile.Profile.{Profile}
+use Rattle.model.specs.declared.profile.Profile.{Profile}
 use Rattle.device.specs.declared.react.Reaction.{Reaction}
-use Rattle.device.specs.declared.state.State.{State}
+use Rattle.model.specs.declared.state.State.{State}
 use Rattle.device.specs.Calls.{numberOfRefusal, answerBytes}
-use Rattle.device.specs.Profiles.{profileAllowed}
+use Rattle.model.specs.Profiles.{profileAllowed}
 use Rattle.device.specs.Reactions.{byteReaction, sampleReaction}
-use Rattle.device.specs.States.{stateAllowed, startState}
-use Rattle.device.proofs.StateFacts.{allowed-state, start-allowed}
+use Rattle.model.specs.States.{stateAllowed, startState}
+use Rattle.model.proofs.StateFacts.{allowed-state, start-allowed}
 use Rattle.history.specs.EndToEnd.{hostAccepts, EndToEnd}
 use Rattle.history.specs.Tally.{Input, Tally, startTally, byteIs, sampleIs, taken, tallied, loadHolds, typedHolds, weightHolds, holds, afterEvent, eventHolds}
 use Rattle.history.proofs.Along.{Followed, Step, along}

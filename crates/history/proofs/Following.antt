@@ -4,8 +4,8 @@
 use mathlib.Core.Path.{_≡_, ap₂}
 use mathlib.Core.Bool.{true, cond}
 use lib.IntN.{_-ℤ_}
-use Rattle.device.specs.declared.profile.Profile.{Profile}
-use Rattle.device.specs.declared.weighing.Weighing.{Weighing}
+use Rattle.model.specs.declared.profile.Profile.{Profile}
+use Rattle.model.specs.declared.weighing.Weighing.{Weighing}
 use Rattle.device.specs.Weighings.{grossOf, netOf}
 use Rattle.weight.specs.Rounding.{allowedResolution, stepFemtograms, printedFemtograms, exactFemtograms, placesOf, Near}
 use Rattle.weight.proofs.HalfStep.{half-step, exact-difference}

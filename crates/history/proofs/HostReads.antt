@@ -14,7 +14,7 @@ use Rattle.answer.specs.declared.answer.Answer.{Answer}
 use Rattle.answer.specs.declared.answer.Answer.the-variants.{Nothing, Plain, Weight, Refused, Text, Listed, CommandList, Versions}
 use Rattle.answer.specs.declared.answer.Error.{Error}
 use Rattle.answer.specs.declared.answer.Status.{Status}
-use Rattle.device.specs.declared.profile.Profile.{Profile}
+use Rattle.model.specs.declared.profile.Profile.{Profile}
 use Rattle.device.specs.Calls.{answerText, answerBytes}
 use Rattle.device.specs.Weighings.{headOf, numberOf}
 use Rattle.history.specs.EndToEnd.{piecesAfter, piecesOf, valueHolds, piecesHold}

@@ -4,14 +4,14 @@ use Prim.Native.Nat.{ℕ, _+_}
 use mathlib.Core.Path.{_≡_, refl}
 use mathlib.Core.Bool.{Bool, true, false, _&&_, _||_}
 use lib.Dec.{leb, eqb}
-use Rattle.device.specs.declared.profile.Profile.{Profile}
+use Rattle.model.specs.declared.profile.Profile.{Profile}
 use Rattle.device.specs.declared.react.Reaction.{Reaction}
-use Rattle.device.specs.declared.state.Pending.{Pending}
-use Rattle.device.specs.declared.state.Pending.the-variants.{Weigh, Zero, Tare}
-use Rattle.device.specs.declared.state.State.{State}
-use Rattle.device.specs.declared.weighing.Load.{Load}
+use Rattle.model.specs.declared.state.Pending.{Pending}
+use Rattle.model.specs.declared.state.Pending.the-variants.{Weigh, Zero, Tare}
+use Rattle.model.specs.declared.state.State.{State}
+use Rattle.model.specs.declared.weighing.Load.{Load}
 use Rattle.device.specs.Reactions.{withRepeating, withWeighing, chosenReaction, begun, weighing, zeroing, taring, run, resetState, performed, waited, sampleReaction}
-use Rattle.device.specs.States.{isPending}
+use Rattle.model.specs.States.{isPending}
 use Rattle.device.specs.Weighings.{withSample, placeZI, placeDW, placeT, placeTAC, placeTI}
 use Rattle.line.specs.declared.judge.Verdict.{Verdict}
 use Rattle.line.specs.declared.judge.Verdict.the-variants.{Refused, Reset, Busy, Wrong, NoSample, Run, Preset, Show}

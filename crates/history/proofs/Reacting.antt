@@ -12,17 +12,17 @@ use Rattle.answer.specs.declared.answer.Answer.the-variants.{Plain, CommandList
 use Rattle.answer.specs.declared.answer.Answer.the-variants as answers
 use Rattle.answer.specs.declared.answer.Status.the-variants.{A, I, L}
 use Rattle.answer.specs.Commands.{nameOf}
-use Rattle.device.specs.declared.profile.Profile.{Profile}
+use Rattle.model.specs.declared.profile.Profile.{Profile}
 use Rattle.device.specs.declared.react.Reaction.{Reaction}
-use Rattle.device.specs.declared.state.Pending.{Pending}
-use Rattle.device.specs.declared.state.Pending.the-variants.{Nothing, Weigh, Zero, Tare}
-use Rattle.device.specs.declared.state.State.{State}
-use Rattle.device.specs.declared.weighing.Load.{Load}
-use Rattle.device.specs.declared.weighing.Weighing.{Weighing}
+use Rattle.model.specs.declared.state.Pending.{Pending}
+use Rattle.model.specs.declared.state.Pending.the-variants.{Nothing, Weigh, Zero, Tare}
+use Rattle.model.specs.declared.state.State.{State}
+use Rattle.model.specs.declared.weighing.Load.{Load}
+use Rattle.model.specs.declared.weighing.Weighing.{Weighing}
 use Rattle.device.specs.Calls.{answerBytes}
-use Rattle.device.specs.Profiles.{profileAllowed}
+use Rattle.model.specs.Profiles.{profileAllowed}
 use Rattle.device.specs.Reactions.{withWeighing, withWaiting, withRepeating, reaction, chosenReaction, measuredReaction, settled, begun, informed, weighing, zeroing, showing, taring, run, identificationOf, resetState, performed, notWaiting, placeOfPending, waited, sampleReaction}
-use Rattle.device.specs.States.{isPending}
+use Rattle.model.specs.States.{isPending}
 use Rattle.device.specs.Weighings.{placeZ, placeZI, placeDW, placeT, placeTA, placeTAC, placeTI, headOf, stability, grossOf, numberOf, weighed, withTare, withSample, zeroed, tared, tareAnswer}
 use Rattle.line.specs.declared.judge.Verdict.{Verdict}
 use Rattle.line.specs.declared.judge.Verdict.the-variants.{Refused, Reset, Busy, Wrong, NoSample, Run, Preset, Show}

@@ -10,11 +10,11 @@ use Rattle.answer.specs.declared.answer.Answer.the-variants.{Text}
 use Rattle.answer.specs.Lines.{fitsRoom, laidIn}
 use Rattle.device.specs.declared.call.Called.{Called}
 use Rattle.device.specs.declared.call.Refusal.the-variants as refusals
-use Rattle.device.specs.declared.profile.Profile.{Profile}
-use Rattle.device.specs.declared.state.State.{State}
+use Rattle.model.specs.declared.profile.Profile.{Profile}
+use Rattle.model.specs.declared.state.State.{State}
 use Rattle.device.specs.Calls.{answerBytes, numberOfRefusal, refused, chosenOutcome, delivered, ofProfile, powerOnOutcome, PowerOnCalled}
-use Rattle.device.specs.Profiles.{profileAllowed}
-use Rattle.device.specs.States.{startState}
+use Rattle.model.specs.Profiles.{profileAllowed}
+use Rattle.model.specs.States.{startState}
 
 module _ (p : Profile) (s : State) (room : List ℕ) where
   started-by

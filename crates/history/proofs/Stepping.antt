@@ -13,14 +13,14 @@ use Rattle.answer.specs.declared.answer.Answer.the-variants.{Nothing}
 use Rattle.answer.specs.Lines.{fitsRoom, laidIn}
 use Rattle.device.specs.declared.call.Refusal.the-variants as refusals
 use Rattle.device.specs.declared.call.Called.{Called}
-use Rattle.device.specs.declared.profile.Profile.{Profile}
+use Rattle.model.specs.declared.profile.Profile.{Profile}
 use Rattle.device.specs.declared.react.Reaction.{Reaction}
-use Rattle.device.specs.declared.state.State.{State}
-use Rattle.device.specs.declared.weighing.Load.{Load}
+use Rattle.model.specs.declared.state.State.{State}
+use Rattle.model.specs.declared.weighing.Load.{Load}
 use Rattle.device.specs.Calls.{numberOfRefusal, answerBytes, Outcome, refused, chosenOutcome, delivered, ofProfile, ofState, byteOutcome, sampleOutcome, ByteCalled, SampleCalled}
-use Rattle.device.specs.Profiles.{profileAllowed}
+use Rattle.model.specs.Profiles.{profileAllowed}
 use Rattle.device.specs.Reactions.{withLine, chosenReaction, reaction, performed, byteReaction, sampleReaction}
-use Rattle.device.specs.States.{zeroAllowed, tareAllowed, lineAllowed, displayAllowed, waitingAllowed, repeatingAllowed, isPending, stateAllowed}
+use Rattle.model.specs.States.{zeroAllowed, tareAllowed, lineAllowed, displayAllowed, waitingAllowed, repeatingAllowed, isPending, stateAllowed}
 use Rattle.line.specs.declared.receive.Line.{Line}
 use Rattle.line.specs.Receiving.{clearedLine, receivedByte}
 use Rattle.line.specs.Judging.{judgement}

@@ -6,7 +6,7 @@ use mathlib.Core.Bool.{Bool, true, false, _&&_}
 use mathlib.Core.List.{List}
 use borrow.Author.Tests.{le-leb}
 use lib.IntN.{ℤ, pos, natAbs, _-ℤ_}
-use Rattle.device.specs.declared.profile.Profile.{Profile}
+use Rattle.model.specs.declared.profile.Profile.{Profile}
 use Rattle.weight.specs.Ascii.{ascii, sameText}
 use Rattle.weight.specs.Reading.{readField, isDecimal}
 use Rattle.weight.specs.Rounding.{placeFemtograms, printedFemtograms, exactFemtograms, placesOf, Near}

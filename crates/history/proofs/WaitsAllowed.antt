@@ -14,21 +14,21 @@ use lib.Signed.{leZ, ltZ}
 use Rattle.answer.specs.declared.answer.Status.{Status}
 use Rattle.answer.specs.declared.answer.Status.the-variants.{A}
 use Rattle.answer.specs.declared.answer.Answer.the-variants as answers
-use Rattle.device.specs.declared.profile.Profile.{Profile}
+use Rattle.model.specs.declared.profile.Profile.{Profile}
 use Rattle.device.specs.declared.react.Reaction.{Reaction}
-use Rattle.device.specs.declared.state.Display.{Display}
-use Rattle.device.specs.declared.state.Pending.{Pending}
-use Rattle.device.specs.declared.state.Pending.the-variants.{Nothing, Weigh, Zero, Tare}
-use Rattle.device.specs.declared.state.State.{State}
-use Rattle.device.specs.declared.state.Waiting.{Waiting}
-use Rattle.device.specs.declared.weighing.Load.{Load}
+use Rattle.model.specs.declared.state.Display.{Display}
+use Rattle.model.specs.declared.state.Pending.{Pending}
+use Rattle.model.specs.declared.state.Pending.the-variants.{Nothing, Weigh, Zero, Tare}
+use Rattle.model.specs.declared.state.State.{State}
+use Rattle.model.specs.declared.state.Waiting.{Waiting}
+use Rattle.model.specs.declared.weighing.Load.{Load}
 use Rattle.device.specs.declared.weighing.Measured.{Measured}
-use Rattle.device.specs.declared.weighing.Weighing.{Weighing}
-use Rattle.device.specs.Profiles.{textAllowed20, profileAllowed}
+use Rattle.model.specs.declared.weighing.Weighing.{Weighing}
+use Rattle.model.specs.Profiles.{textAllowed20, profileAllowed}
 use Rattle.device.specs.Reactions.{chosenReaction, withLine, withWeighing, withWaiting, withRepeating, withDisplay, notWaiting, settled, begun, weighing, zeroing, taring, run, weightShown, resetState, textShown, performed, byteReaction, waited, sampleReaction}
-use Rattle.device.specs.States.{zeroAllowed, tareAllowed, lineAllowed, displayAllowed, isPending, waitingAllowed, repeatingAllowed, stateAllowed}
+use Rattle.model.specs.States.{zeroAllowed, tareAllowed, lineAllowed, displayAllowed, isPending, waitingAllowed, repeatingAllowed, stateAllowed}
 use Rattle.device.specs.Weighings.{placeZ, placeZI, placeDW, placeT, placeTI, placeTAC, stability, grossOf, withTare, withZero, withSample, chosenWeighing, zeroed, tared}
-use Rattle.device.proofs.ProfileFacts.{allowed-profile}
+use Rattle.model.proofs.ProfileFacts.{allowed-profile}
 use Rattle.line.specs.declared.judge.Verdict.{Verdict}
 use Rattle.line.specs.declared.judge.Verdict.the-variants.{Refused, Reset, Busy, Wrong, NoSample, Run, Preset, Show}
 use Rattle.line.specs.declared.receive.Line.{Line}

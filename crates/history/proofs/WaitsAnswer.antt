@@ -10,10 +10,10 @@ use Rattle.answer.specs.declared.answer.Answer.{Answer}
 use Rattle.answer.specs.declared.answer.Answer.the-variants.{Nothing, Plain, Weight, Refused, Text, Listed, CommandList, Versions}
 use Rattle.answer.specs.Commands.{nameOf, levelOf}
 use Rattle.answer.specs.Lines.{lineEnd, quoted, headText, weightText, errorText, listedLine, listedFrom, lineOf}
-use Rattle.device.specs.declared.profile.Profile.{Profile}
-use Rattle.device.specs.declared.weighing.Weighing.{Weighing}
+use Rattle.model.specs.declared.profile.Profile.{Profile}
+use Rattle.model.specs.declared.weighing.Weighing.{Weighing}
 use Rattle.device.specs.Calls.{answerBytes}
-use Rattle.device.specs.Profiles.{identityText}
+use Rattle.model.specs.Profiles.{identityText}
 use Rattle.device.specs.Weighings.{placeS, grossOf, netOf, headOf, numberOf, stability, inLimits, weighed, zeroed, tared}
 use Rattle.answer.specs.declared.answer.Status.{Status}
 use Rattle.weight.specs.Ascii.{ascii, digit}

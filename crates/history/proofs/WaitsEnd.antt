@@ -9,14 +9,14 @@ use lib.ListN.{take}
 use Rattle.answer.specs.declared.answer.Answer.the-variants as answers
 use Rattle.device.specs.declared.call.Called.{Called}
 use Rattle.device.specs.declared.call.Refusal.the-variants as refusals
-use Rattle.device.specs.declared.profile.Profile.{Profile}
+use Rattle.model.specs.declared.profile.Profile.{Profile}
 use Rattle.device.specs.declared.react.Reaction.{Reaction}
-use Rattle.device.specs.declared.state.State.{State}
+use Rattle.model.specs.declared.state.State.{State}
 use Rattle.device.specs.Calls.{numberOfRefusal, answerBytes}
-use Rattle.device.specs.Profiles.{profileAllowed}
+use Rattle.model.specs.Profiles.{profileAllowed}
 use Rattle.device.specs.Reactions.{withLine, performed, byteReaction, sampleReaction}
-use Rattle.device.specs.States.{isPending, stateAllowed, startState}
-use Rattle.device.proofs.StateFacts.{start-allowed}
+use Rattle.model.specs.States.{isPending, stateAllowed, startState}
+use Rattle.model.proofs.StateFacts.{start-allowed}
 use Rattle.line.specs.declared.receive.Line.{Line}
 use Rattle.line.specs.Judging.{judgement}
 use Rattle.line.specs.Receiving.{clearedLine, receivedByte}

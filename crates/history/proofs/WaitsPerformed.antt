@@ -10,14 +10,14 @@ use lib.Dec.{leb, eqb}
 use Rattle.answer.specs.declared.answer.Answer.the-variants as answers
 use Rattle.answer.specs.declared.answer.Status.the-variants.{A}
 use Rattle.answer.specs.Commands.{nameOf}
-use Rattle.device.specs.declared.profile.Profile.{Profile}
+use Rattle.model.specs.declared.profile.Profile.{Profile}
 use Rattle.device.specs.declared.react.Reaction.{Reaction}
-use Rattle.device.specs.declared.state.Pending.{Pending}
-use Rattle.device.specs.declared.state.Pending.the-variants.{Nothing, Weigh, Zero, Tare}
-use Rattle.device.specs.declared.state.State.{State}
-use Rattle.device.specs.declared.weighing.Weighing.{Weighing}
+use Rattle.model.specs.declared.state.Pending.{Pending}
+use Rattle.model.specs.declared.state.Pending.the-variants.{Nothing, Weigh, Zero, Tare}
+use Rattle.model.specs.declared.state.State.{State}
+use Rattle.model.specs.declared.weighing.Weighing.{Weighing}
 use Rattle.device.specs.Reactions.{withRepeating, reaction, notWaiting, settled, begun, weighing, zeroing, taring, run, resetState, performed}
-use Rattle.device.specs.States.{isPending}
+use Rattle.model.specs.States.{isPending}
 use Rattle.device.specs.Weighings.{placeZ, placeZI, placeDW, placeT, placeTI, placeTAC, stability}
 use Rattle.line.specs.declared.judge.Verdict.{Verdict}
 use Rattle.line.specs.declared.judge.Verdict.the-variants.{Refused, Reset, Busy, Wrong, NoSample, Run, Preset, Show}

@@ -10,22 +10,22 @@ use lib.Dec.{leb}
 use Rattle.answer.specs.declared.answer.Answer.the-variants as answers
 use Rattle.answer.specs.declared.answer.Status.the-variants.{I}
 use Rattle.answer.specs.Lines.{headText, lineOf}
-use Rattle.device.specs.declared.profile.Profile.{Profile}
+use Rattle.model.specs.declared.profile.Profile.{Profile}
 use Rattle.device.specs.declared.react.Reaction.{Reaction}
-use Rattle.device.specs.declared.state.Pending.{Pending}
-use Rattle.device.specs.declared.state.Pending.the-variants.{Nothing, Weigh, Zero, Tare}
-use Rattle.device.specs.declared.state.State.{State}
-use Rattle.device.specs.declared.weighing.Load.{Load}
+use Rattle.model.specs.declared.state.Pending.{Pending}
+use Rattle.model.specs.declared.state.Pending.the-variants.{Nothing, Weigh, Zero, Tare}
+use Rattle.model.specs.declared.state.State.{State}
+use Rattle.model.specs.declared.weighing.Load.{Load}
 use Rattle.device.specs.Calls.{answerBytes}
 use Rattle.device.specs.Reactions.{withLine, withWeighing, withWaiting, reaction, measuredReaction, notWaiting, placeOfPending, settled, waited, sampleReaction}
-use Rattle.device.specs.States.{isPending, stateAllowed}
+use Rattle.model.specs.States.{isPending, stateAllowed}
 use Rattle.device.specs.Weighings.{headOf, weighed, withSample}
 use Rattle.line.specs.declared.judge.Verdict.{Verdict}
 use Rattle.line.specs.declared.receive.Line.{Line}
 use Rattle.line.specs.Unbounded.{Marked, endsUnbounded, finishedLine, judgementOf}
 use Rattle.line.proofs.Kept.{Keeps}
 use Rattle.line.proofs.Verdicts.{run-line}
-use Rattle.device.proofs.StateFacts.{allowed-state}
+use Rattle.model.proofs.StateFacts.{allowed-state}
 use Rattle.history.specs.Tally.{Input, byteIs, sampleIs, isResetLine}
 use Rattle.history.specs.Waits.{Waits, isEmpty, mayWait, isTimeout, afterLine, afterInput, byteHolds, inputHolds}
 use Rattle.history.proofs.WaitsAllowed.{by-choice}

@@ -11,7 +11,7 @@ use lib.Seq.{take-at, drop-at}
 use Rattle.answer.specs.declared.answer.Answer.the-variants.{Weight}
 use Rattle.answer.specs.declared.answer.Status.the-variants.{A, S, D}
 use Rattle.answer.specs.Lines.{lineEnd, headText, weightText, lineOf}
-use Rattle.device.specs.declared.profile.Profile.{Profile}
+use Rattle.model.specs.declared.profile.Profile.{Profile}
 use Rattle.device.specs.Weighings.{headOf, numberOf, placeS, placeT, placeTA, placeTI}
 use Rattle.device.specs.Calls.{answerBytes}
 use Rattle.weight.specs.declared.reading.FieldRead.the-variants.{Number as ReadNumber}

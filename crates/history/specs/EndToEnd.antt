@@ -11,8 +11,8 @@ use Rattle.answer.specs.declared.answer.Answer.{Answer}
 use Rattle.answer.specs.declared.answer.Answer.the-variants.{Nothing, Plain, Weight, Refused, Text, Listed, CommandList, Versions}
 use Rattle.device.specs.declared.call.Called.{Called}
 use Rattle.device.specs.declared.call.Refusal.the-variants as refusals
-use Rattle.device.specs.declared.profile.Profile.{Profile}
-use Rattle.device.specs.declared.state.State.{State}
+use Rattle.model.specs.declared.profile.Profile.{Profile}
+use Rattle.model.specs.declared.state.State.{State}
 use Rattle.device.specs.Calls.{PowerOnCalled}
 use Rattle.history.specs.Claim.{Calls}
 use Rattle.history.specs.Tally.{Event, Tally, startTally, numberFemtograms, exactWeight, allowance, tallied, afterEvent}

@@ -6,7 +6,7 @@ use mathlib.Core.List.{List, [], _∷_, _++_, map}
 use lib.Dec.{leb, eqb}
 use lib.IntN.{ℤ, pos, natAbs, _-ℤ_, _*ℤ_}
 use lib.ListN.{length, take, drop}
-use Rattle.device.specs.declared.profile.Profile.{Profile}
+use Rattle.model.specs.declared.profile.Profile.{Profile}
 use Rattle.line.specs.Unbounded.{Marked, endsUnbounded, afterMarked, finishedLine, byteIn, anyFaulty}
 use Rattle.line.specs.Judging.{beforeSpace, afterSpace}
 use Rattle.weight.specs.Ascii.{ascii, sameText}

@@ -8,8 +8,8 @@ use mathlib.Core.List.{List, [], _∷_, map}
 use lib.Dec.{eqb}
 use Rattle.device.specs.declared.call.Called.{Called}
 use Rattle.device.specs.declared.call.Refusal.the-variants as refusals
-use Rattle.device.specs.declared.profile.Profile.{Profile}
-use Rattle.device.specs.declared.state.State.{State}
+use Rattle.model.specs.declared.profile.Profile.{Profile}
+use Rattle.model.specs.declared.state.State.{State}
 use Rattle.device.specs.Calls.{PowerOnCalled}
 use Rattle.line.specs.Unbounded.{Marked, endsUnbounded, afterMarked, finishedLine, byteIn, anyFaulty}
 use Rattle.weight.specs.Ascii.{ascii, sameText}

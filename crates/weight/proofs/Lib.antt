@@ -1,5 +1,4 @@
 pub mod Allowed
-pub mod BenchCases
 mod DecimalText
 pub mod Digits
 mod Ending

@@ -2,7 +2,7 @@ use mathlib.Core.Path.{_≡_, sym, ap, _∙_}
 use borrow.Author.Needs.{needs}
 use borrow.Author.Tests.{not-true, not-false}
 use Rattle.answer.specs.declared.answer.Answer.the-variants.{Text}
-use Rattle.device.specs.declared.state.State.{State}
+use Rattle.model.specs.declared.state.State.{State}
 use Rattle.device.specs.Reactions.{reaction}
 use Rattle.device.proofs.Refusals.{on-refused, on-delivered}
 use Rattle.device.proofs.call.power_on.Statement.{statement}

@@ -2,9 +2,9 @@ use mathlib.Core.Path.{_≡_, sym, ap, _∙_}
 use mathlib.Core.Bool.{true}
 use borrow.Author.Needs.{needs}
 use borrow.Author.Tests.{not-true, not-false}
-use Rattle.device.specs.Profiles.{profileAllowed}
+use Rattle.model.specs.Profiles.{profileAllowed}
 use Rattle.device.specs.Reactions.{byteReaction}
-use Rattle.device.specs.States.{stateAllowed}
+use Rattle.model.specs.States.{stateAllowed}
 use Rattle.device.specs.Calls.{byteOutcome}
 use Rattle.device.proofs.Admission.{in-reach, line-in-cells}
 use Rattle.device.proofs.Refusals.{refused-profile, refused-state, taken}

@@ -15,8 +15,8 @@ same-length c = search needs
 returns : tie.Need-returns
 returns c =
     let start = c .before .before .before .before .before .before .before in
-    let told = c .before .before .before .before .emit-due .ensures in
-    let fits = sym (ap (λ (e : Emitted). e .fits) (told .0)) ∙ c .before .if1 .taken in
+    let told = c .before .before .before .emit-due .ensures in
+    let fits = sym (ap (λ (e : Emitted). e .fits) (told .0)) ∙ c .if1 .taken in
     rw (delivers (start .args .profile) (start .args .given) (start .args .reaction) (start .args .out .now) fits)
     (ap (λ (e : Emitted). record { refusal = refusals.None; state = start .args .reaction .state; count = e .count }) (told .0), told .1)
 
@@ -25,7 +25,7 @@ same-length-2 c = search needs
 
 returns-2 : tie.Need-returns-2
 returns-2 c =
-    let start = c .before .before .before .before .before .before in
+    let start = c .before .before .before .before .before .before .before in
     let told = c .before .before .before .emit-due .ensures in
     let fits = sym (ap (λ (e : Emitted). e .fits) (told .0)) ∙ c .if1 .left in
     rw (withholds (start .args .profile) (start .args .given) (start .args .reaction) (start .args .out .now) fits) (refl, told .1)

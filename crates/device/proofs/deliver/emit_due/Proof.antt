@@ -2,7 +2,7 @@ use mathlib.Core.Path.{_≡_, sym, _∙_}
 use borrow.Author.Needs.{needs}
 use borrow.Author.Tests.{leb-true}
 use Rattle.device.proofs.Delivery.{bytes-model, bytes-software, bytes-serial, bytes-identity, bytes-plain}
-use Rattle.device.proofs.ProfileFacts.{allowed-profile}
+use Rattle.model.proofs.ProfileFacts.{allowed-profile}
 use Rattle.device.proofs.Delivery.{short20, short40}
 use Rattle.device.proofs.deliver.emit_due.Statement.{statement}
 use Rattle.device.proofs.deliver.emit_due.Tie as tie

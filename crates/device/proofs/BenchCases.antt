@@ -1,0 +1,105 @@
+-- Document 01, "Bench cases": the starred ones, as one table under one statement.
+-- Assumes nothing.
+use Prim.Native.Nat.{ℕ}
+use Prim.Native.String.{String}
+use mathlib.Core.Path.{_≡_, refl}
+use mathlib.Core.Bool.{Bool, true, false}
+use mathlib.Core.List.{List, [], _∷_, _++_, map}
+use lib.IntN.{ℤ, pos, negsuc}
+use lib.ListN.{replicate}
+use Rattle.answer.specs.Lines.{lineEnd, headText, weightText, lineOf}
+use Rattle.device.specs.Calls.{answerBytes}
+use Rattle.device.specs.Weighings.{weighed}
+use Rattle.model.specs.declared.profile.Profile.{Profile}
+use Rattle.model.specs.declared.profile.Text20.{Text20}
+use Rattle.model.specs.declared.profile.Text40.{Text40}
+use Rattle.model.specs.declared.weighing.Weighing.{Weighing}
+use Rattle.weight.specs.Ascii.{ascii, space}
+use Rattle.weight.specs.Field.{lastDigits, digitsIn, digitsOf, decimalOf, numberText, widthOf, fitsField, fieldOf}
+use Rattle.weight.specs.Printing.{printable, printedNumber}
+use Rattle.weight.specs.Rounding.{allowedResolution, halfUp, roundAway, stepsOf, placesOf}
+use Rattle.weight.specs.declared.units.WeightUnit.{WeightUnit}
+use Rattle.weight.specs.declared.units.WeightUnit.the-variants.{G, Ct, Oz}
+
+-- how weights are shown, a stable load in micrograms with zero and tare 0, and the answer to S
+pub record Case : Type 0 where
+  pub unit : WeightUnit
+  pub decimals : ℕ
+  pub step : ℕ
+  pub load : ℤ
+  pub text : String
+
+abbrev pub case : WeightUnit → ℕ → ℕ → ℤ → String → Case
+case u d k n t = record { unit = u; decimals = d; step = k; load = n; text = t }
+
+unfoldable pub cases : List Case
+cases =
+    case G 4 1 (pos 14_256_049) "S S    14.2560 g"
+    ∷ case G 4 1 (pos 14_256_050) "S S    14.2561 g"
+    ∷ case G 4 1 (negsuc 48) "S S     0.0000 g"
+    ∷ case G 4 1 (negsuc 49) "S S    -0.0001 g"
+    ∷ case G 4 5 (pos 249) "S S     0.0000 g"
+    ∷ case G 4 5 (pos 250) "S S     0.0005 g"
+    ∷ case Ct 3 1 (pos 99) "S S      0.000 ct"
+    ∷ case Ct 3 1 (pos 100) "S S      0.001 ct"
+    ∷ case Oz 5 1 (pos 28_349_523) "S S    1.00000 oz"
+    ∷ case G 4 1 (pos 220_000_000) "S S   220.0000 g"
+    ∷ case G 4 1 (pos 220_000_001) "S +"
+    ∷ case G 4 1 (negsuc 999_999) "S S    -1.0000 g"
+    ∷ case G 4 1 (negsuc 1_000_000) "S -"
+    ∷ []
+
+abbrev pub noText40 : Text40
+noText40 = record { bytes = replicate 40 space; len = 0 }
+
+abbrev pub noText20 : Text20
+noText20 = record { bytes = replicate 20 space; len = 0 }
+
+-- document 01's profile A, in the case's unit, decimals and step
+abbrev pub profileOf : Case → Profile
+profileOf c =
+    record {
+      capacity = 220_000_000;
+      underload = 1_000_000;
+      zeroing = 4_400_000;
+      timeout = 3;
+      resolution = record { unit = c .unit; decimals = c .decimals; step = c .step };
+      model = noText40;
+      software = noText40;
+      serial = record { bytes = ascii "VA-0001" ++ replicate 13 space; len = 7 };
+      identity = noText20;
+    }
+
+abbrev pub weighingOf : Case → Weighing
+weighingOf c =
+    record { zero = record { 0 = pos 0 }; tare = record { 0 = pos 0 }; sampled = true; load = record { 0 = c .load }; stable = true }
+
+-- what the written meaning answers
+unfoldable pub answered : Case → List ℕ
+answered c = answerBytes (profileOf c) (weighed (profileOf c) (weighingOf c))
+
+pub bench-cases : map answered cases ≡ map (λ (c : Case). ascii (c .text) ++ lineEnd) cases
+unfolding
+    cases
+    answered
+    answerBytes
+    weighed
+    lineOf
+    headText
+    weightText
+    printable
+    printedNumber
+    allowedResolution
+    halfUp
+    roundAway
+    stepsOf
+    placesOf
+    lastDigits
+    digitsIn
+    digitsOf
+    decimalOf
+    numberText
+    widthOf
+    fitsField
+    fieldOf
+bench-cases = refl

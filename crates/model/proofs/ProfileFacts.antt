@@ -1,0 +1,81 @@
+-- What an allowed profile gives: the lines of document 01, "The profile".
+-- Assumes nothing.
+use mathlib.Core.Path.{_≡_}
+use mathlib.Core.Bool.{Bool, true, false, _&&_}
+use Prim.Native.Nat.{_≤_}
+use borrow.Author.Tests.{leb-true}
+use lib.Dec.{leb}
+use Rattle.weight.specs.Rounding.{allowedResolution}
+use Rattle.weight.proofs.Allowed.{both-left, both-right}
+use Rattle.model.specs.declared.profile.Profile.{Profile}
+use Rattle.model.specs.Profiles.{capacityAllowed, underloadAllowed, zeroRangeAllowed, timeoutAllowed, netsAllowed, textAllowed20, textAllowed40, textsAllowed, profileAllowed}
+use Rattle.model.proofs.Conjunctions.{Four, four}
+
+-- the lines on C, U, R and W
+abbrev pub limitsAllowed : Profile → Bool
+limitsAllowed p = capacityAllowed p && underloadAllowed p && zeroRangeAllowed p && timeoutAllowed p
+
+-- each of them as a fact
+pub record AllowedLimits (p : Profile) : Type 0 where
+  pub capacity-least : 1 ≤ p .capacity
+  pub capacity-most : p .capacity ≤ 1_000_000_000
+  pub underload-most : p .underload ≤ p .capacity
+  pub zeroing-most : p .zeroing ≤ p .capacity
+  pub timeout-least : 1 ≤ p .timeout
+  pub timeout-most : p .timeout ≤ 1000
+
+-- they hold where their tests do
+pub allowed-limits : (p : Profile) → limitsAllowed p ≡ true → AllowedLimits p
+allowed-limits p h =
+    let lines : Four (capacityAllowed p) (underloadAllowed p) (zeroRangeAllowed p) (timeoutAllowed p) =
+    four (capacityAllowed p) (underloadAllowed p) (zeroRangeAllowed p) (timeoutAllowed p) h in
+    record {
+      capacity-least = leb-true _ _ (both-left (leb 1 (p .capacity)) (leb (p .capacity) 1_000_000_000) (lines .first));
+      capacity-most = leb-true _ _ (both-right (leb 1 (p .capacity)) (leb (p .capacity) 1_000_000_000) (lines .first));
+      underload-most = leb-true _ _ (lines .second);
+      zeroing-most = leb-true _ _ (lines .third);
+      timeout-least = leb-true _ _ (both-left (leb 1 (p .timeout)) (leb (p .timeout) 1000) (lines .fourth));
+      timeout-most = leb-true _ _ (both-right (leb 1 (p .timeout)) (leb (p .timeout) 1000) (lines .fourth));
+    }
+
+-- limits that are not allowed refuse the profile
+pub limits-refuse : (p : Profile) → limitsAllowed p ≡ false → profileAllowed p ≡ false
+unfolding profileAllowed
+limits-refuse p e = rw e
+
+-- and with those that are the rest decides
+pub limits-allow
+    : (p : Profile) → limitsAllowed p ≡ true
+    → profileAllowed p ≡ (allowedResolution (p .resolution) && netsAllowed p && textsAllowed p)
+unfolding profileAllowed
+limits-allow p e = rw e
+
+-- all lines of an allowed profile
+pub record AllowedProfile (p : Profile) : Type 0 where
+  pub limits : AllowedLimits p
+  pub resolution : allowedResolution (p .resolution) ≡ true
+  pub nets : netsAllowed p ≡ true
+  pub model : textAllowed40 (p .model) ≡ true
+  pub software : textAllowed40 (p .software) ≡ true
+  pub serial : textAllowed20 (p .serial) ≡ true
+  pub identity : textAllowed20 (p .identity) ≡ true
+
+-- they hold where the profile's test does
+pub allowed-profile : (p : Profile) → profileAllowed p ≡ true → AllowedProfile p
+unfolding profileAllowed
+allowed-profile p h =
+    let lines : Four (limitsAllowed p) (allowedResolution (p .resolution)) (netsAllowed p) (textsAllowed p) =
+    four (limitsAllowed p) (allowedResolution (p .resolution)) (netsAllowed p) (textsAllowed p) h in
+    let long = textAllowed40 (p .model) && textAllowed40 (p .software) in
+    let short = textAllowed20 (p .serial) && textAllowed20 (p .identity) in
+    let longs = both-left long short (lines .fourth) in
+    let shorts = both-right long short (lines .fourth) in
+    record {
+      limits = allowed-limits p (lines .first);
+      resolution = lines .second;
+      nets = lines .third;
+      model = both-left (textAllowed40 (p .model)) (textAllowed40 (p .software)) longs;
+      software = both-right (textAllowed40 (p .model)) (textAllowed40 (p .software)) longs;
+      serial = both-left (textAllowed20 (p .serial)) (textAllowed20 (p .identity)) shorts;
+      identity = both-right (textAllowed20 (p .serial)) (textAllowed20 (p .identity)) shorts;
+    }

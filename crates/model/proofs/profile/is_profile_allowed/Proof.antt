@@ -1,0 +1,39 @@
+use mathlib.Core.Path.{_≡_, sym, _∙_}
+use mathlib.Core.Bool.{true}
+use borrow.Author.Needs.{needs}
+use borrow.Author.Tests.{not-true, not-false}
+use Rattle.model.proofs.ProfileFacts.{limitsAllowed, AllowedLimits, allowed-limits, limits-refuse, limits-allow}
+use Rattle.model.proofs.profile.is_profile_allowed.Statement.{statement}
+use Rattle.model.proofs.profile.is_profile_allowed.Tie as tie
+
+are-limits-allowed-requires : tie.Need-are-limits-allowed-requires
+are-limits-allowed-requires c κs = search needs
+
+returns : tie.Need-returns
+returns c = sym (limits-refuse (c .before .before .args .profile) (sym (c .before .are-limits-allowed .ensures) ∙ not-true _ (c .if1 .taken)))
+
+-- the limits are allowed
+limits-at : (c : tie.Else1) → limitsAllowed (c .before .before .args .profile) ≡ true
+limits-at c = sym (c .before .are-limits-allowed .ensures) ∙ not-false _ (c .if1 .left)
+
+are-nets-allowed-requires : tie.Need-are-nets-allowed-requires
+are-nets-allowed-requires c κs =
+    let limits : AllowedLimits (c .before .before .args .profile) = allowed-limits _ (limits-at c) in
+    (limits .capacity-most, limits .underload-most)
+
+are-texts-allowed-requires : tie.Need-are-texts-allowed-requires
+are-texts-allowed-requires c κs = search needs
+
+returns-2 : tie.Need-returns-2
+returns-2 c =
+    rw (limits-allow (c .before .before .before .before .args .profile) (limits-at (c .before .before)), c .before .are-nets-allowed .ensures, c .are-texts-allowed .ensures)
+
+pub is-profile-allowed-spec : {M : Type 1} → statement M
+is-profile-allowed-spec =
+    tie.close
+    (tie.spec
+    are-limits-allowed-requires
+    returns
+    are-nets-allowed-requires
+    are-texts-allowed-requires
+    returns-2)

@@ -1,0 +1,13 @@
+use borrow.Author.Needs.{needs}
+use Rattle.model.proofs.Widening.{count-gives}
+use Rattle.model.proofs.signed.from_count.Statement.{statement}
+use Rattle.model.proofs.signed.from_count.Tie as tie
+
+cast-t2 : tie.Need-cast-t2
+cast-t2 c = search needs
+
+returns : tie.Need-returns
+returns c = count-gives (search needs)
+
+pub from-count-spec : {M : Type 1} → statement M
+from-count-spec = tie.close (tie.spec cast-t2 returns)

@@ -1,0 +1,16 @@
+use borrow.Author.Needs.{needs}
+use Rattle.model.proofs.Widening.{opposite-asks, opposite-gives}
+use Rattle.model.proofs.signed.negative_of.Statement.{statement}
+use Rattle.model.proofs.signed.negative_of.Tie as tie
+
+cast-m : tie.Need-cast-m
+cast-m c = search needs
+
+sub-t3 : tie.Need-sub-t3
+sub-t3 c = opposite-asks (c .args .n) (search needs)
+
+returns : tie.Need-returns
+returns c = opposite-gives (c .args .n) (search needs)
+
+pub negative-of-spec : {M : Type 1} → statement M
+negative-of-spec = tie.close (tie.spec cast-m sub-t3 returns)

@@ -1,0 +1,72 @@
+-- Document 01, "The profile": a profile is refused exactly when one of these lines is broken.
+-- Assumes nothing.
+use Prim.Native.Nat.{ℕ, _+_}
+use mathlib.Core.Bool.{Bool, cond, _&&_}
+use mathlib.Core.List.{List, []}
+use lib.Dec.{leb, eqb}
+use lib.IntN.{pos, negℤ}
+use lib.ListN.{take}
+use Rattle.model.specs.declared.profile.Text20.{Text20}
+use Rattle.model.specs.declared.profile.Text40.{Text40}
+use Rattle.model.specs.declared.profile.Profile.{Profile}
+use Rattle.line.specs.Judging.{isPrintable}
+use Rattle.weight.specs.Rounding.{allowedResolution, placesOf}
+use Rattle.weight.specs.Field.{fitsField}
+
+abbrev pub textOf20 : Text20 → List ℕ
+textOf20 t = take (t .len) (t .bytes)
+
+abbrev pub textOf40 : Text40 → List ℕ
+textOf40 t = take (t .len) (t .bytes)
+
+-- Capacity C: 1 to 1,000,000,000
+abbrev pub capacityAllowed : Profile → Bool
+capacityAllowed p = leb 1 (p .capacity) && leb (p .capacity) 1_000_000_000
+
+-- Underload margin U: 0 to C
+abbrev pub underloadAllowed : Profile → Bool
+underloadAllowed p = leb (p .underload) (p .capacity)
+
+-- Zeroing range R: 0 to C
+abbrev pub zeroRangeAllowed : Profile → Bool
+zeroRangeAllowed p = leb (p .zeroing) (p .capacity)
+
+-- Patience W: 1 to 1,000 samples
+abbrev pub timeoutAllowed : Profile → Bool
+timeoutAllowed p = leb 1 (p .timeout) && leb (p .timeout) 1000
+
+-- Every net weight from -(U+C) to C, printed, fits ten characters: the two ends do
+abbrev pub netsAllowed : Profile → Bool
+netsAllowed p =
+    fitsField (p .resolution .decimals) (placesOf (p .resolution) (negℤ (pos (p .underload + p .capacity))))
+    && fitsField (p .resolution .decimals) (placesOf (p .resolution) (pos (p .capacity)))
+
+-- Texts for I2 and I3 (0 to 40 characters), I4 and I5 (0 to 20): bytes 32 to 255 without 34
+abbrev pub textAllowed20 : Text20 → Bool
+textAllowed20 t = leb (t .len) 20 && isPrintable (textOf20 t)
+
+abbrev pub textAllowed40 : Text40 → Bool
+textAllowed40 t = leb (t .len) 40 && isPrintable (textOf40 t)
+
+abbrev pub textsAllowed : Profile → Bool
+textsAllowed p =
+    (textAllowed40 (p .model) && textAllowed40 (p .software)) && (textAllowed20 (p .serial) && textAllowed20 (p .identity))
+
+-- the lines of "The profile", one after another; unit, decimals and step are those of the resolution
+unfoldable pub profileAllowed : Profile → Bool
+profileAllowed p =
+    capacityAllowed p
+    && underloadAllowed p
+    && zeroRangeAllowed p
+    && timeoutAllowed p
+    && allowedResolution (p .resolution)
+    && netsAllowed p
+    && textsAllowed p
+
+-- the text that goes with I2 to I5
+abbrev pub identityText : Profile → ℕ → List ℕ
+identityText p c =
+    cond (eqb c 2) (textOf40 (p .model))
+    (cond (eqb c 3) (textOf40 (p .software))
+    (cond (eqb c 4) (textOf20 (p .serial))
+    (cond (eqb c 5) (textOf20 (p .identity)) [])))

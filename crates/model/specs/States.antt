@@ -1,0 +1,65 @@
+-- Document 01, "Refusal numbers", case 2, and the state that power-on returns.
+-- Assumes nothing.
+use Prim.Native.Nat.{ℕ}
+use mathlib.Core.Bool.{Bool, true, false, not, _&&_, _||_}
+use lib.Dec.{leb, ltb}
+use lib.IntN.{pos, negℤ}
+use lib.ListN.{replicate}
+use lib.Signed.{leZ}
+use Rattle.model.specs.declared.profile.Profile.{Profile}
+use Rattle.model.specs.declared.state.Pending.{Pending}
+use Rattle.model.specs.declared.state.Pending.the-variants.{Nothing, Weigh, Zero, Tare}
+use Rattle.model.specs.declared.state.State.{State}
+use Rattle.model.specs.Profiles.{textAllowed20}
+use Rattle.line.specs.Receiving.{emptyLine, lineLimit}
+
+-- zero in its range: -R..R
+abbrev pub zeroAllowed : Profile → State → Bool
+zeroAllowed p s = leZ (negℤ (pos (p .zeroing))) (s .weighing .zero .0) && leZ (s .weighing .zero .0) (pos (p .zeroing))
+
+-- tare in its range: 0..C
+abbrev pub tareAllowed : Profile → State → Bool
+tareAllowed p s = leZ (pos 0) (s .weighing .tare .0) && leZ (s .weighing .tare .0) (pos (p .capacity))
+
+-- not over 64 line bytes held
+abbrev pub lineAllowed : State → Bool
+lineAllowed s = leb (s .line .len) lineLimit
+
+-- a shown text that D would take
+abbrev pub displayAllowed : State → Bool
+displayAllowed s = not (s .display .shown) || textAllowed20 (s .display .text)
+
+abbrev pub isPending : Pending → Bool
+isPending Nothing = false
+isPending Weigh = true
+isPending Zero = true
+isPending Tare = true
+
+-- not waiting with W or more unstable samples counted
+abbrev pub waitingAllowed : Profile → State → Bool
+waitingAllowed p s = not (isPending (s .waiting .pending)) || ltb (s .waiting .unstable) (p .timeout)
+
+-- not repeating with no sample
+abbrev pub repeatingAllowed : State → Bool
+repeatingAllowed s = not (s .repeating) || s .weighing .sampled
+
+-- none of the cases of refusal 2
+unfoldable pub stateAllowed : Profile → State → Bool
+stateAllowed p s =
+    zeroAllowed p s
+    && tareAllowed p s
+    && lineAllowed s
+    && displayAllowed s
+    && waitingAllowed p s
+    && repeatingAllowed s
+
+-- zero 0, tare 0, the weight shown, an empty line, no sample, no command waiting and no repetition
+unfoldable pub startState : State
+startState =
+    record {
+      line = emptyLine;
+      weighing = record { zero = record { 0 = pos 0 }; tare = record { 0 = pos 0 }; sampled = false; load = record { 0 = pos 0 }; stable = false };
+      waiting = record { pending = Nothing; unstable = 0 };
+      repeating = false;
+      display = record { shown = false; text = record { bytes = replicate 20 0; len = 0 } };
+    }

@@ -1,0 +1,24 @@
+// What a device is made of: its profile and its state, and the tests whether they are refused (refusals 1 and 2).
+// The crates above use the promises of the functions named here and the laws of proofs/.
+mod profile;
+mod signed;
+mod state;
+mod weighing;
+
+pub use profile::Profile;
+pub use profile::Text20;
+pub use profile::Text40;
+pub use profile::is_profile_allowed;
+pub use signed::above;
+pub use signed::from_count;
+pub use signed::from_load;
+pub use signed::negative_of;
+pub use state::Display;
+pub use state::Pending;
+pub use state::State;
+pub use state::Waiting;
+pub use state::is_pending;
+pub use state::is_state_allowed;
+pub use state::start_state;
+pub use weighing::Load;
+pub use weighing::Weighing;

@@ -1,0 +1,132 @@
+// What changes between calls, grouped by who changes it, and whether it is allowed.
+ghost use mathlib.Core.Path.{_≡_};
+ghost use mathlib.Core.Bool.{not, _&&_, _||_};
+ghost use lib.Signed.{leZ};
+ghost use Rattle.model.specs.Profiles.{textAllowed20};
+ghost use Rattle.model.specs.States.{isPending, stateAllowed, startState};
+use crate::profile::Profile;
+use crate::profile::Text20;
+use crate::profile::is_text_allowed20;
+use crate::signed::at_most;
+use crate::signed::from_count;
+use crate::signed::negative_of;
+use crate::weighing::Load;
+use crate::weighing::Weighing;
+use line::Line;
+use weight::Micrograms;
+
+// The command that waits for a stable sample: S, Z or T.
+pub enum Pending {
+    Nothing,
+    Weigh,
+    Zero,
+    Tare,
+}
+
+pub struct Waiting {
+    pub pending: Pending,
+    // The unstable samples that have come while it waits.
+    pub unstable: u32,
+}
+
+pub struct Display {
+    // The text of D is shown in place of the weight.
+    pub shown: bool,
+    pub text: Text20,
+}
+
+pub struct State {
+    pub line: Line,
+    pub weighing: Weighing,
+    pub waiting: Waiting,
+    // Document 01's repetition: each sample is answered, as SIR asked.
+    pub repeating: bool,
+    pub display: Display,
+}
+
+// The bytes that a line holds at most.
+const LINE_LIMIT: u8 = 64;
+
+pub fn is_pending(pending: Pending) -> bool
+    ensures { λ r. ⌜ r ≡ isPending pending ⌝ }
+{
+    match pending {
+        Pending::Nothing => false,
+        Pending::Weigh => true,
+        Pending::Zero => true,
+        Pending::Tare => true,
+    }
+}
+
+fn is_between(low: Micrograms, weight: Micrograms, high: Micrograms) -> bool
+    ensures { λ r. ⌜ r ≡ leZ (low .0) (weight .0) && leZ (weight .0) (high .0) ⌝ }
+{
+    at_most(low, weight) & at_most(weight, high)
+}
+
+fn is_display_allowed(display: Display) -> bool
+    ensures { λ r. ⌜ r ≡ not (display .shown) || textAllowed20 (display .text) ⌝ }
+{
+    let text = display.text;
+    if display.shown {
+        return is_text_allowed20(text);
+    }
+    true
+}
+
+pub fn is_state_allowed(profile: Profile, state: State) -> bool
+    ensures { λ r. ⌜ r ≡ stateAllowed profile state ⌝ }
+{
+    let weighing = state.weighing;
+    let waiting = state.waiting;
+    let pending = waiting.pending;
+    let display = state.display;
+    let zero = is_between(
+        negative_of(profile.zeroing),
+        weighing.zero,
+        from_count(profile.zeroing),
+    );
+    let tare = is_between(from_count(0), weighing.tare, from_count(profile.capacity));
+    let patient = !is_pending(pending) | (waiting.unstable < profile.timeout);
+    zero
+        & tare
+        & (state.line.len <= LINE_LIMIT)
+        & is_display_allowed(display)
+        & patient
+        & (!state.repeating | weighing.sampled)
+}
+
+// What power-on returns.
+pub fn start_state() -> State
+    ensures { λ r. ⌜ r ≡ startState ⌝ }
+{
+    let cells = [0u8; 64];
+    let bytes = [0u8; 20];
+    let line = Line {
+        bytes: cells,
+        len: 0,
+        over: false,
+        faulty: false,
+        returned: false,
+    };
+    let weighing = Weighing {
+        zero: Micrograms(0),
+        tare: Micrograms(0),
+        sampled: false,
+        load: Load(0),
+        stable: false,
+    };
+    let waiting = Waiting {
+        pending: Pending::Nothing,
+        unstable: 0,
+    };
+    let text = Text20 { bytes, len: 0 };
+    let display = Display { shown: false, text };
+    State {
+        line,
+        weighing,
+        waiting,
+        repeating: false,
+        display,
+    }
+}

@@ -1,0 +1,50 @@
+-- `bench::main` is safe and ends. The measure is the number of turns that are left.
+-- Assumes nothing.
+use borrow.Author.Needs.{needs}
+use Rattle.bench.proofs.main.Statement.{statement}
+use Rattle.bench.proofs.main.Tie as tie
+
+abbrev Inv-loop : tie.InvT-loop
+Inv-loop session₀ turns₀ session turns = Unit {0}
+
+abbrev μ-loop : tie.MeasureT-loop
+μ-loop session₀ turns₀ session turns = turns
+
+on-requires : tie.Need-on-requires Inv-loop μ-loop
+on-requires c κs = search needs
+
+loop-holds : tie.Need-loop-holds Inv-loop μ-loop
+loop-holds c = search needs
+
+take-some-requires : tie.Need-take-some-requires Inv-loop μ-loop
+take-some-requires c κs = search needs
+
+returns : tie.Need-returns Inv-loop μ-loop
+returns c = search needs
+
+sub-turns : tie.Need-sub-turns Inv-loop μ-loop
+sub-turns c = search needs
+
+loop-less : tie.Need-loop-less Inv-loop μ-loop
+loop-less c = search needs
+
+loop-again : tie.Need-loop-again Inv-loop μ-loop
+loop-again c = search needs
+
+returns-2 : tie.Need-returns-2 Inv-loop μ-loop
+returns-2 c = search needs
+
+pub main-spec : {M : Type 1} → statement M
+main-spec =
+    tie.close
+    (tie.spec
+    Inv-loop
+    μ-loop
+    on-requires
+    loop-holds
+    take-some-requires
+    returns
+    sub-turns
+    loop-less
+    loop-again
+    returns-2)

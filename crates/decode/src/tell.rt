@@ -1,0 +1,166 @@
+// What is printed for a piece.
+use answer::Answer;
+use answer::Head;
+use answer::Number;
+use answer::Status;
+use host::Read;
+use host::ReadText;
+use host::read_line;
+use host::write_line;
+use weight::LastPlaces;
+use weight::WeightUnit;
+use weight::same_text;
+
+fn text(bytes: &[u8]) {
+    io::write_all(1, bytes);
+}
+
+// The first `len` bytes.
+fn first(bytes: &[u8], len: usize) -> &[u8] {
+    let start = 0;
+    if len <= bytes.len() {
+        return &bytes[start..len];
+    }
+    bytes
+}
+
+fn name(command: u8) {
+    let named = answer::name_of(command);
+    let bytes = named.cells;
+    text(first(&bytes, named.len));
+}
+
+fn unit(unit: WeightUnit) {
+    let named = weight::unit_text(unit);
+    let bytes = named.cells;
+    text(first(&bytes, named.len));
+}
+
+fn status(status: Status) {
+    match status {
+        Status::A => text(b"A"),
+        Status::B => text(b"B"),
+        Status::S => text(b"S"),
+        Status::D => text(b"D"),
+        Status::I => text(b"I"),
+        Status::L => text(b"L"),
+        Status::Over => text(b"+"),
+        Status::Under => text(b"-"),
+    }
+}
+
+// What follows the spaces.
+fn aligned(field: &[u8]) {
+    let mut i = 0;
+    while i < field.len() {
+        if field[i] != b' ' {
+            text(&field[i..]);
+            return;
+        }
+        i += 1;
+    }
+}
+
+// As a field with no decimals, which holds every number that a field with some holds.
+fn whole(places: LastPlaces) {
+    let field = weight::field_of(0, places);
+    let bytes = field.cells;
+    aligned(&bytes);
+}
+
+fn weight(head: Head, number: Number) {
+    let letter = head.status;
+    let places = number.places;
+    let measure = number.unit;
+    text(b"weight ");
+    name(head.identification);
+    text(b" ");
+    status(letter);
+    text(b" ");
+    whole(places);
+    text(b" ");
+    io::print_decimal(1, number.decimals as u64);
+    text(b" ");
+    unit(measure);
+    text(b"\r\n");
+}
+
+fn identity(command: u8, bytes: &[u8]) {
+    text(b"text ");
+    name(command);
+    text(b" ");
+    text(bytes);
+    text(b"\r\n");
+}
+
+fn listed(last: bool, command: u8) {
+    text(b"command ");
+    if last {
+        text(b"A ");
+    } else {
+        text(b"B ");
+    }
+    io::print_decimal(1, answer::level_of(command) as u64);
+    text(b" ");
+    name(command);
+    text(b"\r\n");
+}
+
+fn other(line: &[u8]) {
+    text(b"answer ");
+    text(line);
+}
+
+fn tell_answer(answer: Answer, bytes: &[u8], line: &[u8]) {
+    match answer {
+        Answer::Nothing => other(line),
+        Answer::Plain(_) => other(line),
+        Answer::Weight(head, number) => weight(head, number),
+        Answer::Refused(_) => other(line),
+        Answer::Text(command) => identity(command, bytes),
+        Answer::Listed(last, command) => listed(last, command),
+        Answer::CommandList => other(line),
+        Answer::Versions => other(line),
+    }
+}
+
+// Whether the writer makes the same line again.
+fn is_written_again(answer: Answer, bytes: &[u8], line: &[u8]) -> bool {
+    let mut again = [0u8; 64];
+    let written = write_line(answer, bytes, &mut again);
+    same_text(first(&again, written.count), line)
+}
+
+// The text's bytes; none where they do not stand in the line.
+fn text_in(line: &[u8], place: ReadText) -> &[u8] {
+    let start = place.start;
+    let len = place.len;
+    let end = line.len();
+    if end < start {
+        return &line[end..];
+    }
+    if end - start < len {
+        return &line[end..];
+    }
+    let stop = start + len;
+    &line[start..stop]
+}
+
+fn tell_line(answer: Answer, bytes: &[u8], line: &[u8]) {
+    tell_answer(answer, bytes, line);
+    if !is_written_again(answer, bytes, line) {
+        text(b"differs\r\n");
+    }
+}
+
+pub fn tell_refused() {
+    text(b"refused 4\r\n");
+}
+
+pub fn tell(line: &[u8]) {
+    let read = read_line(line);
+    match read {
+        Read::Line(answer, place) => tell_line(answer, text_in(line, place), line),
+        Read::Refused => tell_refused(),
+    }
+}

@@ -1,0 +1,108 @@
+// The module with the profile and the room that are lent to it, and the calls.
+use crate::words::part;
+use device::Called;
+use device::Refusal;
+use device::power_on;
+use device::take_byte;
+use device::take_sample;
+use model::Load;
+use model::Profile;
+use model::State;
+use model::start_state;
+use profiles::profile_a;
+
+pub struct Session {
+    pub profile: Profile,
+    // The length of the buffer that is lent.
+    pub room: usize,
+    // A power-on was granted.
+    pub on: bool,
+    pub state: State,
+    // How many bytes of the script's line there are.
+    pub held: usize,
+    // The script has ended.
+    pub closed: bool,
+}
+
+pub enum Call {
+    On,
+    // A byte, and whether it is marked faulty.
+    Byte(u8, bool),
+    // A load, and whether it is marked stable.
+    Sample(Load, bool),
+}
+
+pub fn start() -> Session {
+    Session {
+        profile: profile_a(),
+        room: 256,
+        on: false,
+        state: start_state(),
+        held: 0,
+        closed: false,
+    }
+}
+
+// A line that is none of the script's, or that comes before a power-on was granted.
+pub fn unknown(session: Session) -> Session {
+    io::write_all(1, b"?\r\n");
+    session
+}
+
+fn write_outcome(refusal: Refusal, count: usize, out: &[u8]) {
+    match refusal {
+        Refusal::None => {
+            io::write_all(1, part(out, 0, count));
+        }
+        Refusal::Profile => {
+            io::write_all(1, b"refused 1\r\n");
+        }
+        Refusal::State => {
+            io::write_all(1, b"refused 2\r\n");
+        }
+        Refusal::Room => {
+            io::write_all(1, b"refused 3\r\n");
+        }
+    }
+}
+
+fn is_granted(refusal: Refusal) -> bool {
+    match refusal {
+        Refusal::None => true,
+        Refusal::Profile => false,
+        Refusal::State => false,
+        Refusal::Room => false,
+    }
+}
+
+// What the call returned is printed, and its state is the next call's.
+fn after_call(session: Session, called: Called, out: &[u8]) -> Session {
+    let refusal = called.refusal;
+    let state = called.state;
+    let mut next = session;
+    next.state = state;
+    next.on = session.on | is_granted(refusal);
+    write_outcome(refusal, called.count, out);
+    next
+}
+
+fn called(session: Session, call: Call, lent: &mut [u8]) -> Called {
+    let profile = session.profile;
+    let state = session.state;
+    match call {
+        Call::On => power_on(profile, state, lent),
+        Call::Byte(byte, faulty) => take_byte(profile, state, byte, faulty, lent),
+        Call::Sample(load, stable) => take_sample(profile, state, load, stable, lent),
+    }
+}
+
+// One call, with a buffer of the length that the script says.
+pub fn make(session: Session, call: Call, out: &mut [u8]) -> Session {
+    let start = 0;
+    let room = session.room;
+    if out.len() < room {
+        return session;
+    }
+    let returned = called(session, call, &mut out[start..room]);
+    after_call(session, returned, out)
+}

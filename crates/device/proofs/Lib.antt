@@ -5,6 +5,7 @@ mod Delivery
 mod Limits
 mod LineLength
 mod LineVerdicts
+pub mod Numbers
 mod OwnRule
 mod Reach
 mod Refusals

@@ -16,8 +16,7 @@ use Rattle.line.specs.declared.receive.Line.{Line}
 use Rattle.line.specs.Judging.{commandIn, firstRow, hasControl, hasSpace, isReset, isUnknown, isWrong, judgement, needsSample, ownRule, takesParameters}
 use Rattle.line.specs.Receiving.{contentOf}
 use Rattle.line.specs.Unbounded.{Marked, anyFaulty, byteIn, judgementOf}
-use Rattle.line.proofs.Verdicts.{PresetLine, RunLine, ShowLine, preset-line, run-line, show-line}
-use Rattle.weight.specs.declared.rounding.Micrograms.{Micrograms}
+use Rattle.line.proofs.Verdicts.{ShowLine, show-line}
 use Rattle.weight.specs.declared.units.WeightUnit.{WeightUnit}
 
 -- bytes that all came good
@@ -83,14 +82,8 @@ module _ (capacity : ℕ) (u : WeightUnit) (l : Line) (waiting sampled : Bool) (
   judged-good : {v : Verdict} → judgement capacity u l waiting sampled ≡ v → accepted v ≡ true → judgementOf capacity u (goodMarks text) waiting sampled ≡ v
   judged-good e a = let good = accepted-line e a in sym (same-judgement (good .0) (good .1)) ∙ e
 
-  -- the command alone, TA with a number, D with a text
-  pub run-known : {c : ℕ} → judgement capacity u l waiting sampled ≡ Run c → RunLine (goodMarks text) waiting sampled c
-  run-known e = run-line capacity u (goodMarks text) waiting sampled (judged-good e refl)
-
-  pub preset-known : {m : Micrograms} → judgement capacity u l waiting sampled ≡ Preset m → PresetLine capacity u (goodMarks text) waiting m
-  preset-known e = preset-line capacity u (goodMarks text) waiting sampled (judged-good e refl)
-
-  pub show-known : {n : ℕ} → judgement capacity u l waiting sampled ≡ Show n → ShowLine (goodMarks text) waiting n
+  -- D with a text
+  show-known : {n : ℕ} → judgement capacity u l waiting sampled ≡ Show n → ShowLine (goodMarks text) waiting n
   show-known e = show-line capacity u (goodMarks text) waiting sampled (judged-good e refl)
 
   short-by : (v : Verdict) → judgement capacity u l waiting sampled ≡ v → showsShort v ≡ true

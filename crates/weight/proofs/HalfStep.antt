@@ -1,4 +1,4 @@
--- Rounding to the nearest: how far the rounded number stands from the exact one.
+-- How far the printed and the stored number stand from the exact one.
 -- Assumes nothing.
 use Prim.Native.Nat.{ℕ, suc, _+_, _-_, _*_, _/_, _%_, _^_, _≤_, _<_}
 use native.Mathlib.Nat.{div-mul-le-self, lt-div-mul-add, div-add-mod', mod-lt, div-eq-of-lt-le, mul-le-mul-right, mul-pos, mul-assoc, add-sub-of-le}
@@ -13,44 +13,9 @@ use Rattle.weight.specs.Units.{nanogramsOf}
 use Rattle.weight.specs.Rounding.{allowedResolution, halfUp, placesOf, placeFemtograms, stepFemtograms, printedFemtograms, exactFemtograms, Near}
 use Rattle.weight.specs.Typed.{typedMicrograms, typedFemtograms}
 use Rattle.weight.proofs.Allowed.{allowed-decimals, allowed-divisor-positive, power-positive}
+use Rattle.weight.proofs.HalfUp.{half-up-not-over, half-up-near}
 use Rattle.weight.proofs.Monotone.{naturalPlaces, places-of-pos, places-of-negsuc, times-odd}
 use Rattle.weight.proofs.Nearness.{near-naturals, near-negated, near-triangle, near-shift, difference-times}
-
--- the rounded multiple of n is at most half of n above m
-pub half-up-not-over : (m n : ℕ) → 2 * (n * halfUp m n) ≤ 2 * m + n
-unfolding halfUp
-half-up-not-over m n = omega (arith, div-mul-le-self (2 * m + n) (2 * n))
-
--- and less than half of n below m: a tie goes up
-pub half-up-tie-up : (m n : ℕ) → 0 < n → 2 * m < 2 * (n * halfUp m n) + n
-unfolding halfUp
-half-up-tie-up m n h =
-    let double : 0 < 2 * n = omega arith in omega (arith, lt-div-mul-add {a = 2 * m + n} double)
-
--- twice the distance between the rounded multiple of n and m is at most n
-pub half-up-near : (m n : ℕ) → 0 < n → (2 * (n * halfUp m n) ≤ 2 * m + n) × (2 * m ≤ 2 * (n * halfUp m n) + n)
-half-up-near m n h = omega (arith, half-up-not-over m n, half-up-tie-up m n h)
-
--- no other whole number is as near
-pub half-up-only : (m n q : ℕ) → 0 < n → 2 * (n * q) ≤ 2 * m + n → 2 * m < 2 * (n * q) + n → halfUp m n ≡ q
-unfolding halfUp
-half-up-only m n q h below above = div-eq-of-lt-le (2 * n) (omega arith) (omega arith)
-
--- a rest below half of n is dropped
-pub half-up-stays : (m n : ℕ) → 0 < n → 2 * (m % n) < n → halfUp m n ≡ m / n
-half-up-stays m n h rest =
-    half-up-only m n (m / n) h (omega (arith, div-add-mod' m n)) (omega (arith, div-add-mod' m n))
-
--- a rest of half of n or more counts as one
-pub half-up-rises : (m n : ℕ) → 0 < n → n ≤ 2 * (m % n) → halfUp m n ≡ m / n + 1
-half-up-rises m n h rest =
-    half-up-only
-    m
-    n
-    (m / n + 1)
-    h
-    (omega (arith, div-add-mod' m n))
-    (omega (arith, div-add-mod' m n, mod-lt m h))
 
 -- ---- the printed number
 

@@ -5,6 +5,7 @@ mod Ending
 pub mod EveryNet
 mod FieldText
 pub mod HalfStep
+mod HalfUp
 mod Machine
 pub mod Monotone
 pub mod Named

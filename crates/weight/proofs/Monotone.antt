@@ -11,23 +11,10 @@ use lib.Signed.{leZ}
 use Rattle.weight.specs.declared.rounding.Resolution.{Resolution}
 use Rattle.weight.specs.Units.{nanogramsOf}
 use Rattle.weight.specs.Rounding.{halfUp, roundAway, stepsOf, placesOf}
+use Rattle.weight.proofs.HalfUp.{half-up-zero, half-up-monotone}
 use Rattle.weight.proofs.Nearness.{up, down, up-negated, down-negated, up-times, down-times, same-parts}
 
 -- ---- natural numbers
-
--- nothing rounds to nothing, also with no divisor
-pub half-up-zero : (n : ℕ) → halfUp 0 n ≡ 0
-unfolding halfUp
-half-up-zero zero = refl
-half-up-zero (suc n) = div-eq-of-lt (omega arith)
-
--- a larger number rounds to no smaller one
-pub half-up-monotone : (a b n : ℕ) → a ≤ b → halfUp a n ≤ halfUp b n
-unfolding halfUp
-half-up-monotone a b zero h = omega (arith, div-zero (2 * a + 0), div-zero (2 * b + 0))
-half-up-monotone a b (suc n) h =
-    let positive : 0 < 2 * suc n = omega arith in
-    le-div-iff-mul-le positive .1 (omega (arith, div-mul-le-self (2 * a + suc n) (2 * suc n)))
 
 -- m micrograms, not negative, in display steps
 abbrev pub naturalSteps : Resolution → ℕ → ℕ
@@ -69,6 +56,16 @@ times-odd a k =
       ap (λ (x : ℕ). x * k) (down-negated a),
     ))
 
+-- a weight that is not negative is rounded once, as a natural number
+pub steps-of-pos : (r : Resolution) (m : ℕ) → stepsOf r (pos m) ≡ pos (naturalSteps r m)
+unfolding stepsOf roundAway
+steps-of-pos r m = refl
+
+-- its last places
+pub places-of-pos : (r : Resolution) (m : ℕ) → placesOf r (pos m) ≡ pos (naturalPlaces r m)
+unfolding placesOf stepsOf roundAway
+places-of-pos r m = refl
+
 -- a tie goes away from zero on both sides
 round-odd : (a : ℤ) (n : ℕ) → roundAway (negℤ a) n ≡ negℤ (roundAway a n)
 unfolding roundAway
@@ -87,16 +84,6 @@ steps-odd r net =
 pub places-odd : (r : Resolution) (net : ℤ) → placesOf r (negℤ net) ≡ negℤ (placesOf r net)
 unfolding placesOf
 places-odd r net = ap (λ (z : ℤ). z *ℤ pos (r .step)) (steps-odd r net) ∙ times-odd (stepsOf r net) (r .step)
-
--- a weight that is not negative is rounded as a natural number
-pub steps-of-pos : (r : Resolution) (m : ℕ) → stepsOf r (pos m) ≡ pos (naturalSteps r m)
-unfolding stepsOf roundAway
-steps-of-pos r m = refl
-
--- its last places
-pub places-of-pos : (r : Resolution) (m : ℕ) → placesOf r (pos m) ≡ pos (naturalPlaces r m)
-unfolding placesOf stepsOf roundAway
-places-of-pos r m = refl
 
 -- one that is negated is rounded as what it negates
 pub steps-of-negated : (r : Resolution) (m : ℕ) → stepsOf r (negℤ (pos m)) ≡ negℤ (pos (naturalSteps r m))

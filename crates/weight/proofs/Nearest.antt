@@ -11,7 +11,7 @@ use lib.Signed.{nonNeg, quotZ, remZ}
 use mir.Syntax.{w64}
 use mir.Val.{SFits}
 use Rattle.weight.specs.Rounding.{halfUp, roundAway}
-use Rattle.weight.proofs.HalfStep.{half-up-stays, half-up-rises}
+use Rattle.weight.proofs.HalfUp.{half-up-stays, half-up-rises, half-up-within}
 
 pub size-neg : (m : ℕ) → natAbs (negℤ (pos m)) ≡ m
 size-neg zero = refl
@@ -50,15 +50,6 @@ falls (negsuc m) n h k e =
     -ℤ-one (negℤ (pos (suc m / n)))
     ∙ neg-less (suc m / n)
     ∙ ap (λ (q : ℕ). negℤ (pos q)) (sym (add-one (suc m / n)) ∙ sym (half-up-rises (suc m) n h (omega (arith, size-neg (suc m % n)))))
-
--- rounding makes no number larger
-half-up-within : (m n : ℕ) → 0 < n → halfUp m n ≤ m
-unfolding halfUp
-half-up-within m n h =
-    let double : 0 < 2 * n = omega arith in
-    let grows : m * 1 ≤ m * n = mul-le-mul-left m h in
-    let below : 2 * m + n < suc m * (2 * n) = simp (suc-mul, mul-left-comm) (omega arith) in
-    le-of-suc-le-suc (div-lt-iff-lt-mul double .1 below)
 
 away-within : (x : ℤ) (n : ℕ) → 0 < n → natAbs (roundAway x n) ≤ natAbs x
 unfolding roundAway

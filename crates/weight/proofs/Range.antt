@@ -14,7 +14,7 @@ use Rattle.weight.specs.declared.rounding.Resolution.{Resolution}
 use Rattle.weight.specs.Units.{nanogramsOf}
 use Rattle.weight.specs.Rounding.{allowedResolution, halfUp, roundAway, stepsOf, placesOf, inRange, netLimit}
 use Rattle.weight.proofs.Allowed.{allowed-decimals, allowed-step-limit, allowed-least-step, allowed-divisor-positive, power-limit}
-use Rattle.weight.proofs.HalfStep.{half-up-not-over}
+use Rattle.weight.proofs.HalfUp.{half-up-not-over}
 use Rattle.weight.proofs.Nearest.{size-neg, size-fits}
 
 pub size-product : (z : ℤ) (n : ℕ) → natAbs (z *ℤ pos n) ≡ natAbs z * n

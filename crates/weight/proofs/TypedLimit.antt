@@ -18,7 +18,7 @@ use Rattle.weight.specs.Rounding.{halfUp}
 use Rattle.weight.specs.Reading.{isDecimal, decimalsIn, valueIn}
 use Rattle.weight.specs.Typed.{MostPlaces, typedMicrograms, largestCapacity, amountOf, isTyped, readTyped}
 use Rattle.weight.proofs.Allowed.{power-positive}
-use Rattle.weight.proofs.HalfStep.{half-up-tie-up}
+use Rattle.weight.proofs.HalfUp.{half-up-tie-up}
 use Rattle.weight.proofs.Range.{scale-limit}
 
 module _ (u : WeightUnit) (n v : ℕ) (most : MostPlaces u n) where

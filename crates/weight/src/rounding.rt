@@ -33,7 +33,7 @@ pub struct DisplaySteps(pub i64);
 pub struct LastPlaces(pub i64);
 
 // x / by to the nearest whole number, a tie away from zero: one signed division with its remainder.
-pub fn nearest(x: Integer, by: u64) -> Integer
+fn nearest(x: Integer, by: u64) -> Integer
     requires { ⌜ 0 < by ⌝ }
     requires { ⌜ by < 2 ^ 62 ⌝ }
     requires { ⌜ natAbs (x .0) < 2 ^ 63 ⌝ }

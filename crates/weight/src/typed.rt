@@ -1,12 +1,10 @@
 // Numbers that a user types, as TA takes them.
 ghost use mathlib.Core.Path.{_≡_};
-ghost use Prim.Native.Nat.{_≤_, _<_};
+ghost use Prim.Native.Nat.{_^_, _≤_, _<_};
+ghost use Rattle.weight.specs.Rounding.{halfUp};
 ghost use Rattle.weight.specs.Typed.{MostPlaces, typedMicrograms, amountOf, readTyped};
-use crate::integer::magnitude;
-use crate::integer::of_natural;
 use crate::reading::read_decimal;
 use crate::rounding::Micrograms;
-use crate::rounding::nearest;
 use crate::rounding::scale_of;
 use crate::units::WeightUnit;
 use crate::units::nanograms_of;
@@ -38,6 +36,21 @@ fn most_places(unit: WeightUnit) -> u64
     }
 }
 
+// value / by to the nearest whole number, a tie upwards: a typed number has no sign, so one unsigned division does.
+fn half_up(value: u64, by: u64) -> u64
+    requires { ⌜ 0 < by ⌝ }
+    requires { ⌜ by < 2 ^ 62 ⌝ }
+    requires { ⌜ value < 2 ^ 63 ⌝ }
+    ensures { λ r. ⌜ r ≡ halfUp value by ⌝ }
+{
+    let quotient = value / by;
+    let rest = value % by;
+    if by <= rest + rest {
+        return quotient + 1;
+    }
+    quotient
+}
+
 fn amount(unit: WeightUnit, decimals: u8, value: u64) -> Typed
     requires { ⌜ decimals ≤ 6 ⌝ }
     ensures { λ r. ⌜ r ≡ amountOf (typedMicrograms unit decimals value) ⌝ }
@@ -45,8 +58,8 @@ fn amount(unit: WeightUnit, decimals: u8, value: u64) -> Typed
     if most_places(unit) < value {
         return Typed::TooLarge;
     }
-    let exact = of_natural(value * nanograms_of(unit).0);
-    let rounded = magnitude(nearest(exact, scale_of(decimals)));
+    let exact = value * nanograms_of(unit).0;
+    let rounded = half_up(exact, scale_of(decimals));
     if LARGEST_CAPACITY < rounded {
         return Typed::TooLarge;
     }

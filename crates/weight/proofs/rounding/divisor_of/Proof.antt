@@ -1,4 +1,3 @@
-use Prim.Native.Nat.{_≤_}
 use native.Mathlib.Nat.{mul-le-mul, lt-of-le-of-lt}
 use borrow.Author.Needs.{needs}
 use lib.Dec.{lit<}
@@ -15,9 +14,8 @@ nanograms-of-requires c κs = search needs
 mul-result : tie.Need-mul-result
 mul-result c =
     let start = c .before .before .before in
-    let step : start .args .resolution .step ≤ 255 = search needs in
     rw (c .before .nanograms-of .ensures)
-    (record { fits = lt-of-le-of-lt (mul-le-mul step (nanograms-limit (start .args .resolution .unit))) (lit< tt) })
+    (record { fits = lt-of-le-of-lt (mul-le-mul {n₂ = 255} (search needs) (nanograms-limit (start .args .resolution .unit))) (lit< tt) })
 
 returns : tie.Need-returns
 returns c = rw (c .before .nanograms-of .ensures)

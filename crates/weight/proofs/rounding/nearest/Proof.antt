@@ -36,7 +36,8 @@ falls-at : (c : tie.Then2) →
     c .before .before .before .before .before .divide .result .quotient .0 +ℤ negsuc 0 ≡ roundAway (start .args .x .0) (start .args .by)
 falls-at c =
     let start = c .before .before .before .before .before .before in
-    let far = rw (rest-at (c .before .before .before)) at (c .before .before .if1 .taken) in
+    let far : start .args .by ≤ natAbs (remZ (start .args .x .0) (pos (start .args .by))) + natAbs (remZ (start .args .x .0) (pos (start .args .by))) =
+    omega (arith, rest-at (c .before .before .before), c .before .before .if1 .taken) in
     ap (λ (q : ℤ). q +ℤ negsuc 0) (c .before .before .before .before .before .divide .ensures .0)
     ∙ falls (start .args .x .0) (start .args .by) (start .pre .0) far (sym (c .before .is-negative .ensures) ∙ c .if2 .taken)
 
@@ -45,7 +46,8 @@ rises-at : (c : tie.Else2) →
     c .before .before .before .before .before .divide .result .quotient .0 +ℤ pos 1 ≡ roundAway (start .args .x .0) (start .args .by)
 rises-at c =
     let start = c .before .before .before .before .before .before in
-    let far = rw (rest-at (c .before .before .before)) at (c .before .before .if1 .taken) in
+    let far : start .args .by ≤ natAbs (remZ (start .args .x .0) (pos (start .args .by))) + natAbs (remZ (start .args .x .0) (pos (start .args .by))) =
+    omega (arith, rest-at (c .before .before .before), c .before .before .if1 .taken) in
     ap (λ (q : ℤ). q +ℤ pos 1) (c .before .before .before .before .before .divide .ensures .0)
     ∙ rises (start .args .x .0) (start .args .by) (start .pre .0) far (sym (c .before .is-negative .ensures) ∙ c .if2 .left)
 
@@ -69,7 +71,7 @@ returns-3 : tie.Need-returns-3
 returns-3 c =
     let start = c .before .before .before .before in
     c .before .before .before .divide .ensures .0
-    ∙ stays (start .args .x .0) (start .args .by) (start .pre .0) (rw (rest-at (c .before)) at (c .if1 .left))
+    ∙ stays (start .args .x .0) (start .args .by) (start .pre .0) (omega (arith, rest-at (c .before), c .if1 .left))
 
 pub nearest-spec : {M : Type 1} → statement M
 nearest-spec =

@@ -4,7 +4,6 @@ use native.Mathlib.Omega.{arith}
 use borrow.Author.Needs.{needs}
 use mir.Facts.{toZ-pos}
 use mir.Syntax.{w64}
-use Rattle.weight.specs.Rounding.{roundAway}
 use Rattle.weight.specs.Typed.{typedMicrograms}
 use Rattle.weight.proofs.Allowed.{power-positive}
 use Rattle.weight.proofs.Range.{scale-limit}
@@ -23,58 +22,50 @@ returns c =
 nanograms-of-requires : tie.Need-nanograms-of-requires
 nanograms-of-requires c κs = search needs
 
--- the exact product is a number that a signed word holds
-exact-at : (c : tie.After-struct-known) →
-    let start = c .before .before .before .before in
-    c .before .before .before .before .args .value * c .before .nanograms-of .result .0 < 2 ^ 63
+-- the exact product is a number that a word holds
+exact-at : (c : tie.After-nanograms-of) →
+    let start = c .before .before .before in
+    start .args .value * c .nanograms-of .result .0 < 2 ^ 63
 exact-at c =
-    let start = c .before .before .before .before in
-    rw (c .before .nanograms-of .ensures)
-    (product-small (start .args .unit) (c .before .before .before .most-places .result) (start .args .value) (c .before .before .before .most-places .ensures) (c .before .before .if1 .left))
+    let start = c .before .before .before in
+    rw (c .nanograms-of .ensures)
+    (product-small (start .args .unit) (c .before .before .most-places .result) (start .args .value) (c .before .before .most-places .ensures) (c .before .if1 .left))
 
-mul-of-natural : tie.Need-mul-of-natural
-mul-of-natural c = record { fits = omega (arith, exact-at c) }
-
-of-natural-requires : tie.Need-of-natural-requires
-of-natural-requires c κs = record { sfits = exact-at c }
+mul-exact : tie.Need-mul-exact
+mul-exact c = record { fits = omega (arith, exact-at (c .before)) }
 
 scale-of-requires : tie.Need-scale-of-requires
 scale-of-requires c κs = search needs
 
-nearest-requires : tie.Need-nearest-requires
-nearest-requires c κs =
-    let start = c .before .before .before .before .before .before in
-    rw (c .scale-of .ensures, c .before .of-natural .ensures) (
+half-up-requires : tie.Need-half-up-requires
+half-up-requires c κs =
+    let start = c .before .before .before .before .before in
+    rw (c .scale-of .ensures) (
       omega (arith, power-positive (start .args .decimals)),
       (omega (arith, scale-limit (start .args .decimals) (start .pre)), exact-at (c .before .before)),
     )
 
-magnitude-requires : tie.Need-magnitude-requires
-magnitude-requires c κs = search needs
-
 -- the local `rounded` is the typed number in micrograms
-rounded-at : (c : tie.After-magnitude) →
-    let start = c .before .before .before .before .before .before .before .before in
-    c .magnitude .result ≡ typedMicrograms (start .args .unit) (start .args .decimals) (start .args .value)
-unfolding roundAway typedMicrograms
+rounded-at : (c : tie.After-half-up) →
+    let start = c .before .before .before .before .before .before in
+    c .half-up .result ≡ typedMicrograms (start .args .unit) (start .args .decimals) (start .args .value)
+unfolding typedMicrograms
 rounded-at c =
     rw (
-      c .magnitude .ensures,
-      c .before .nearest .ensures,
-      c .before .before .scale-of .ensures,
-      c .before .before .before .of-natural .ensures,
-      c .before .before .before .before .before .nanograms-of .ensures,
+      c .half-up .ensures,
+      c .before .scale-of .ensures,
+      c .before .before .before .nanograms-of .ensures,
     )
 
 returns-2 : tie.Need-returns-2
 returns-2 c = rw (← (rounded-at (c .before))) (amount-large _ (c .if2 .taken))
 
-cast-t10 : tie.Need-cast-t10
-cast-t10 c = record { sfits = omega (arith, c .if2 .left) }
+cast-t9 : tie.Need-cast-t9
+cast-t9 c = record { sfits = omega (arith, c .if2 .left) }
 
 returns-3 : tie.Need-returns-3
 returns-3 c =
-    let small : c .before .magnitude .result < 2 ^ 63 = omega (arith, c .if2 .left) in
+    let small : c .before .half-up .result < 2 ^ 63 = omega (arith, c .if2 .left) in
     rw (← (rounded-at (c .before)), toZ-pos w64 small) (amount-small _ (c .if2 .left))
 
 pub amount-spec : {M : Type 1} → statement M
@@ -84,11 +75,9 @@ amount-spec =
     most-places-requires
     returns
     nanograms-of-requires
-    mul-of-natural
-    of-natural-requires
+    mul-exact
     scale-of-requires
-    nearest-requires
-    magnitude-requires
+    half-up-requires
     returns-2
-    cast-t10
+    cast-t9
     returns-3)

@@ -1,6 +1,6 @@
 -- How long the line of an answer is: at most 256 bytes with a text of at most 40.
 -- Assumes nothing.
-use mathlib.Core.Path.{_≡_, refl, sym, ap, _∙_}
+use mathlib.Core.Path.{_≡_, refl}
 use mathlib.Core.Bool.{Bool, true, false, cond}
 use mathlib.Core.List.{List, [], _∷_, _++_}
 use Prim.Native.Nat.{ℕ, _+_, _≤_}
@@ -19,10 +19,10 @@ use Rattle.answer.specs.declared.answer.Error.{Error}
 use Rattle.answer.specs.declared.answer.Error.the-variants.{Syntax, Transmission, Logical}
 use Rattle.answer.specs.declared.answer.Answer.{Answer}
 use Rattle.answer.specs.declared.answer.Answer.the-variants.{Nothing, Plain, Weight, Refused, Text, Listed, CommandList, Versions}
-use Rattle.answer.specs.Commands.{names, nameOf, levelOf}
-use Rattle.answer.specs.Lines.{lineEnd, quoted, statusText, headText, weightText, errorText, listedLine, listedFrom, lineOf}
+use Rattle.answer.specs.Commands.{nameOf, levelOf}
+use Rattle.answer.specs.Lines.{lineEnd, quoted, statusText, headText, weightText, listedLine, listedFrom, lineOf}
 use Rattle.answer.proofs.Names.{name-short}
-use Rattle.answer.proofs.Units.{unit-short}
+use Rattle.weight.proofs.Named.{unit-short}
 
 -- ---- the parts
 
@@ -132,17 +132,7 @@ line-limit (Listed last c) t h = omega (arith, listed-length last c t, name-shor
 line-limit CommandList t h = omega (arith, list-length t)
 line-limit Versions t h = omega (arith, versions-length t)
 
--- ---- the first and the last line of I0
-
-pub first-listed : listedLine false 0 ≡ ascii "I0 B 0 \"I0\"\r\n"
-unfolding listedLine
-first-listed = refl
-
-pub last-listed : listedLine true 17 ≡ ascii "I0 A 1 \"TI\"\r\n"
-unfolding listedLine
-last-listed = refl
-
--- they begin and end the answer
+-- the first and the last line of I0
 pub list-first : (t : List ℕ) → take 13 (lineOf CommandList t) ≡ ascii "I0 B 0 \"I0\"\r\n"
 unfolding lineOf listedFrom listedLine
 list-first t = refl

@@ -1,15 +1,12 @@
 -- The lines of an answer, by the pieces that the code lays.
 -- Assumes nothing.
-use mathlib.Core.Path.{_≡_, refl, sym, ap, _∙_}
+use mathlib.Core.Path.{_≡_, ap, _∙_}
 use mathlib.Core.List.{List, [], _∷_, _++_, append-assoc}
-use mathlib.Core.Bool.{Bool, true, false, cond}
-use Prim.Native.Nat.{ℕ, _+_, _≤_, zero-le}
-use native.Mathlib.Omega.{arith}
-use lib.Dec.{ltb}
-use lib.ListN.{length}
+use mathlib.Core.Bool.{Bool, cond}
+use Prim.Native.Nat.{ℕ, _+_}
 use Rattle.weight.specs.Ascii.{ascii, digit}
 use Rattle.answer.specs.declared.answer.Head.{Head}
-use Rattle.answer.specs.Commands.{basicNames, nameOf, levelOf}
+use Rattle.answer.specs.Commands.{nameOf, levelOf}
 use Rattle.answer.specs.Lines.{lineEnd, quoted, statusText, headText, weightText, listedLine}
 use Rattle.weight.specs.declared.field.Field.{Field}
 use Rattle.weight.specs.Field.{fitsField, fieldIf}
@@ -49,10 +46,3 @@ unfolding listedLine
 listed-pieces last c b l e f =
     ap (λ (v : ℕ). (73 ∷ 48 ∷ 32 ∷ b ∷ 32 ∷ (48 + v) ∷ 32 ∷ 34 ∷ []) ++ nameOf c ++ (34 ∷ 13 ∷ 10 ∷ [])) f
     ∙ pieces-listed (cond last (ascii "A") (ascii "B")) (nameOf c) b (digit (levelOf c)) e
-
-level-by : (b : Bool) → cond b 0 1 ≤ 1
-level-by true = zero-le
-level-by false = omega arith
-
-pub level-small : (c : ℕ) → levelOf c ≤ 1
-level-small c = level-by (ltb c (length basicNames))

@@ -1,20 +1,20 @@
 -- The names of the commands: a command is the place of its name, and no other word is one.
 -- Assumes nothing.
 use mathlib.Core.Path.{_≡_, refl, sym, ap, _∙_}
-use mathlib.Core.Bool.{Bool, true, false, cond, _&&_, and-eq-true-iff}
-use mathlib.Core.List.{List, [], _∷_, _++_}
+use mathlib.Core.Bool.{Bool, true, false, cond, _&&_, and-eq-true-iff, false≢true}
+use mathlib.Core.List.{List, [], _∷_}
 use Prim.Native.Nat.{ℕ, zero, suc, _+_, _-_, _≤_, _<_, zero-le}
 use mathlib.Core.Logic.{⊎-elim}
 use native.Mathlib.Nat.{eq-or-lt-of-le, le-of-suc-le-suc, not-suc-le-zero, add-zero, add-suc, suc-add, zero-add}
 use native.Mathlib.Omega.{arith}
-use native.Mathlib.Numerals.{add-one}
-use borrow.Author.Tests.{eqb-true, leb-true}
-use lib.Dec.{leb, eqb}
-use lib.ListN.{length, take, drop, getD, replicate, length-append, List·getD-eq-default}
-use lib.Seq.{drop-cons, take-append-seam, take-all, length-take-le}
+use borrow.Author.Tests.{eqb-true, ne-eqb, leb-true}
+use lib.Dec.{leb, ltb, eqb}
+use lib.ListN.{length, take, getD, replicate, length-append, List·getD-eq-default}
+use lib.Seq.{take-append-seam, take-all, length-take-le}
 use Rattle.weight.specs.Ascii.{space, sameText}
-use Rattle.weight.proofs.Named.{same-is}
-use Rattle.answer.specs.Commands.{names, nameOf, nameCells, placeIn, placeOf}
+use Rattle.weight.proofs.Allowed.{both-left, both-right}
+use Rattle.weight.proofs.Named.{same-is, same-self}
+use Rattle.answer.specs.Commands.{basicNames, names, nameOf, nameCells, levelOf, placeIn, placeOf, endsOf, allEnds, placeAmong}
 use Rattle.answer.specs.declared.command.Name.{Name}
 
 -- the first cells of a name are its text
@@ -54,57 +54,51 @@ no-name-length c h = (sym (ap length (no-name c h)), zero-le)
 pub name-made : (l : List ℕ) (k : ℕ) (n : Name) → l ≡ n .cells → k ≡ n .len → _≡_ {A = Name} (record { cells = l; len = k }) n
 name-made l k n e f = rw (e, f)
 
--- a number that is none of the first n is n or more
-abbrev pub NoneOf : ℕ → ℕ → Type 0
-NoneOf zero c = Unit
-NoneOf (suc n) c = NoneOf n c × (c ≡ n → ⊥)
-
-pub none-of : (n c : ℕ) → NoneOf n c → n ≤ c
-none-of zero c p = zero-le
-none-of (suc n) c p = ⊎-elim (λ e. absurd (p .1 (sym e))) (λ h. h) (eq-or-lt-of-le (none-of n c (p .0)))
-
--- ---- the search for a word, from the front
-
-module _ (w : List ℕ) (ns : List (List ℕ)) (i : ℕ) (h : i < length ns) where
-  pub place-here : sameText w (getD ns i []) ≡ true → placeIn (drop i ns) w ≡ 0
-  unfolding placeIn
-  place-here e = rw (drop-cons ns i [] h, e)
-
-  pub place-later : sameText w (getD ns i []) ≡ false → placeIn (drop i ns) w ≡ suc (placeIn (drop (i + 1) ns) w)
-  unfolding placeIn
-  place-later e = rw (add-one, drop-cons ns i [] h, e)
-
 -- ---- what callers use
 
--- one test of the whole table: no name is over three characters
-abbrev allShort : List (List ℕ) → Bool
-allShort [] = true
-allShort (n ∷ ns) = leb (length n) 3 && allShort ns
+-- a test of every name, and of no name
+abbrev pub everyName : (List ℕ → Bool) → List (List ℕ) → Bool
+everyName f [] = f []
+everyName f (n ∷ ns) = f n && everyName f ns
 
-short-in : (ns : List (List ℕ)) (c : ℕ) → allShort ns ≡ true → length (getD ns c []) ≤ 3
-short-in [] c t = zero-le
-short-in (n ∷ ns) zero t = leb-true (length n) 3 (and-eq-true-iff (leb (length n) 3) (allShort ns) .0 t .0)
-short-in (n ∷ ns) (suc c) t = short-in ns c (and-eq-true-iff (leb (length n) 3) (allShort ns) .0 t .1)
+-- it is passed at every place, past the end too
+pub at-name : (f : List ℕ → Bool) (ns : List (List ℕ)) (c : ℕ) → everyName f ns ≡ true → f (getD ns c []) ≡ true
+at-name f [] c e = e
+at-name f (n ∷ ns) zero e = both-left (f n) (everyName f ns) e
+at-name f (n ∷ ns) (suc c) e = at-name f ns c (both-right (f n) (everyName f ns) e)
 
 -- no name is over three characters
 pub name-short : (c : ℕ) → length (nameOf c) ≤ 3
-name-short c = short-in names c refl
+name-short c = leb-true (length (nameOf c)) 3 (at-name (λ n. leb (length n) 3) names c refl)
+
+level-by : (b : Bool) → cond b 0 1 ≤ 1
+level-by true = zero-le
+level-by false = omega arith
+
+-- no level is over 1
+pub level-small : (c : ℕ) → levelOf c ≤ 1
+level-small c = level-by (ltb c (length basicNames))
 
 -- one test of the whole table: each name is found at its place, counted from i
-abbrev allFound : List (List ℕ) → ℕ → Bool
-allFound [] i = true
-allFound (n ∷ ns) i = eqb (placeIn names n) i && allFound ns (suc i)
+abbrev allFound : (List ℕ → ℕ) → List (List ℕ) → ℕ → Bool
+allFound f [] i = true
+allFound f (n ∷ ns) i = eqb (f n) i && allFound f ns (suc i)
 
-found-in : (ns : List (List ℕ)) (i c : ℕ) → allFound ns i ≡ true → c < length ns → placeIn names (getD ns c []) ≡ i + c
-found-in [] i c t h = absurd (not-suc-le-zero h)
-found-in (n ∷ ns) i zero t h = eqb-true (placeIn names n) i (and-eq-true-iff (eqb (placeIn names n) i) (allFound ns (suc i)) .0 t .0) ∙ sym (add-zero i)
-found-in (n ∷ ns) i (suc c) t h =
-    found-in ns (suc i) c (and-eq-true-iff (eqb (placeIn names n) i) (allFound ns (suc i)) .0 t .1) (le-of-suc-le-suc h) ∙ suc-add i c ∙ sym (add-suc i c)
+found-in : (f : List ℕ → ℕ) (ns : List (List ℕ)) (i c : ℕ) → allFound f ns i ≡ true → c < length ns → f (getD ns c []) ≡ i + c
+found-in f [] i c t h = absurd (not-suc-le-zero h)
+found-in f (n ∷ ns) i zero t h = eqb-true (f n) i (and-eq-true-iff (eqb (f n) i) (allFound f ns (suc i)) .0 t .0) ∙ sym (add-zero i)
+found-in f (n ∷ ns) i (suc c) t h =
+    found-in f ns (suc i) c (and-eq-true-iff (eqb (f n) i) (allFound f ns (suc i)) .0 t .1) (le-of-suc-le-suc h) ∙ suc-add i c ∙ sym (add-suc i c)
 
 -- a command's name is found as that command
 pub name-found : (c : ℕ) → c < 18 → placeOf (nameOf c) ≡ c
 unfolding placeOf placeIn
-name-found c h = found-in names 0 c refl h ∙ zero-add c
+name-found c h = found-in placeOf names 0 c refl h ∙ zero-add c
+
+-- and so it is by its ends
+ends-found : (c : ℕ) → c < 18 → placeAmong (allEnds names) (endsOf (nameOf c)) ≡ c
+unfolding placeAmong endsOf
+ends-found c h = found-in (λ n. placeAmong (allEnds names) (endsOf n)) names 0 c refl h ∙ zero-add c
 
 -- by the test of the first name, and else by those after it
 name-by : (b : Bool) (w n : List ℕ) (ns : List (List ℕ)) → sameText w n ≡ b → (placeIn ns w < length ns → getD ns (placeIn ns w) [] ≡ w)
@@ -135,3 +129,63 @@ limit-in (n ∷ ns) w = limit-by (sameText w n) (placeIn ns w) (length ns) (limi
 pub place-limit : (w : List ℕ) → placeOf w ≤ 18
 unfolding placeOf
 place-limit w = limit-in names w
+
+-- ---- the search by the ends of a word
+
+-- a word without bytes has the ends 0
+pub no-bytes : (w : List ℕ) → length w ≡ 0 → 0 ≡ endsOf w
+unfolding endsOf
+no-bytes [] h = refl
+no-bytes (c ∷ w) h = absurd (omega arith)
+
+-- what a match says of a number that none of its arms names, the first arm innermost
+abbrev NoneIn : List ℕ → ℕ → Type 0 → Type 0
+NoneIn [] k t = t
+NoneIn (x ∷ xs) k t = NoneIn xs k (t × (k ≡ x → ⊥))
+
+abbrev Differs : List ℕ → ℕ → Type 0
+Differs [] k = Unit
+Differs (x ∷ xs) k = (k ≡ x → ⊥) × Differs xs k
+
+none-differs : (xs : List ℕ) (k : ℕ) (t : Type 0) → NoneIn xs k t → t × Differs xs k
+none-differs [] k t p = (p, tt)
+none-differs (x ∷ xs) k t p = let q = none-differs xs k (t × (k ≡ x → ⊥)) p in (q .0 .0, (q .0 .1, q .1))
+
+not-among : (xs : List ℕ) (k : ℕ) → Differs xs k → placeAmong xs k ≡ length xs
+unfolding placeAmong
+not-among [] k d = refl
+not-among (x ∷ xs) k d = rw (ne-eqb k x (d .0)) (ap suc (not-among xs k (d .1)))
+
+pub no-ends : (k : ℕ) → NoneIn (allEnds names) k Unit → placeAmong (allEnds names) k ≡ 18
+no-ends k p = not-among (allEnds names) k (none-differs (allEnds names) k Unit p .1)
+
+among-limit : (xs : List ℕ) (k : ℕ) → placeAmong xs k ≤ length xs
+unfolding placeAmong
+among-limit [] k = zero-le
+among-limit (x ∷ xs) k = limit-by (eqb k x) (placeAmong xs k) (length xs) (among-limit xs k)
+
+-- no word, no name
+no-word : placeOf (nameOf 18) ≡ 18
+unfolding placeOf placeIn
+no-word = refl
+
+-- the name found is the word's own
+pub own-name : (w : List ℕ) (c : ℕ) → c ≡ placeAmong (allEnds names) (endsOf w) → sameText w (nameOf c) ≡ true → c ≡ placeOf w
+own-name w c e s =
+    let same : w ≡ nameOf c = same-is w (nameOf c) s in
+    let within : c ≤ 18 = rw e (among-limit (allEnds names) (endsOf w)) in
+    ⊎-elim
+    (λ last. last ∙ sym (ap placeOf (same ∙ ap nameOf last) ∙ no-word))
+    (λ h. sym (ap placeOf same ∙ name-found c h))
+    (eq-or-lt-of-le within)
+
+-- a word that is not the name with its ends is none
+pub other-word : (w : List ℕ) (c : ℕ) → c ≡ placeAmong (allEnds names) (endsOf w) → sameText w (nameOf c) ≡ false → 18 ≡ placeOf w
+other-word w c e s =
+    ⊎-elim
+    (λ last. sym last)
+    (λ h.
+    let name : nameOf (placeOf w) ≡ w = found-name w h in
+    let found : c ≡ placeOf w = e ∙ ap (λ (v : List ℕ). placeAmong (allEnds names) (endsOf v)) (sym name) ∙ ends-found (placeOf w) h in
+    absurd (false≢true (sym s ∙ ap (sameText w) (ap nameOf found ∙ name) ∙ same-self w)))
+    (eq-or-lt-of-le (place-limit w))

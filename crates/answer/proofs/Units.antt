@@ -6,20 +6,9 @@ use native.Mathlib.Omega.{arith}
 use lib.ListN.{length, take}
 use lib.Seq.{length-take-le}
 use Rattle.weight.specs.declared.units.WeightUnit.{WeightUnit}
-use Rattle.weight.specs.declared.units.WeightUnit.the-variants.{G, Mg, Ct, Oz, Ozt, Gn, Dwt}
 use Rattle.weight.specs.declared.units.UnitText.{UnitText}
 use Rattle.weight.specs.Units.{unitText, unitCells}
 use Rattle.weight.proofs.Named as W
-
--- no unit is over three characters
-pub unit-short : (u : WeightUnit) → length (unitText u) ≤ 3
-unit-short G = omega arith
-unit-short Mg = omega arith
-unit-short Ct = omega arith
-unit-short Oz = omega arith
-unit-short Ozt = omega arith
-unit-short Gn = omega arith
-unit-short Dwt = omega arith
 
 -- the first cells of a unit are its text
 pub cells-unit : (n : UnitText) (u : WeightUnit) → n ≡ unitCells u → take (n .len) (n .cells) ≡ unitText u
@@ -34,4 +23,4 @@ cells-count n u e = sym (length-take-le (n .len) (n .cells) (cells-enough n u e)
 pub cells-length : (n : UnitText) (u : WeightUnit) → n ≡ unitCells u → (n .len ≡ length (unitText u)) × (n .len ≤ 3)
 cells-length n u e =
     let same : n .len ≡ length (unitText u) = ap (λ (x : UnitText). x .len) e in
-    (same, omega (arith, unit-short u))
+    (same, omega (arith, W.unit-short u))

@@ -1,9 +1,9 @@
 -- Document 01, "Commands carried": the names in the order in which I0 lists them, and their levels.
 -- Assumes nothing.
-use Prim.Native.Nat.{ℕ, suc, _-_}
-use mathlib.Core.Bool.{Bool, cond}
+use Prim.Native.Nat.{ℕ, suc, _+_, _-_, _*_}
+use mathlib.Core.Bool.{cond}
 use mathlib.Core.List.{List, [], _∷_, _++_}
-use lib.Dec.{ltb}
+use lib.Dec.{ltb, eqb}
 use lib.ListN.{length, getD, replicate}
 use Rattle.answer.specs.declared.command.Name.{Name}
 use Rattle.weight.specs.Ascii.{ascii, space, sameText}
@@ -49,3 +49,18 @@ placeIn (n ∷ ns) w = cond (sameText w n) 0 (suc (placeIn ns w))
 
 unfoldable pub placeOf : List ℕ → ℕ
 placeOf w = placeIn names w
+
+-- ---- how a name is looked for
+
+-- a word's first and last byte
+unfoldable pub endsOf : List ℕ → ℕ
+endsOf w = getD w 0 0 * 256 + getD w (length w - 1) 0
+
+abbrev pub allEnds : List (List ℕ) → List ℕ
+allEnds [] = []
+allEnds (n ∷ ns) = endsOf n ∷ allEnds ns
+
+-- how many stand before a number, and all where it is none
+unfoldable pub placeAmong : List ℕ → ℕ → ℕ
+placeAmong [] k = 0
+placeAmong (x ∷ xs) k = cond (eqb k x) 0 (suc (placeAmong xs k))

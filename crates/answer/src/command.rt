@@ -1,8 +1,8 @@
 // The commands, each known by its place in the order in which I0 lists them.
 ghost use mathlib.Core.Path.{_≡_};
-ghost use Prim.Native.Nat.{_≤_};
+ghost use Prim.Native.Nat.{_+_, _*_, _≤_};
 ghost use lib.ListN.{length};
-ghost use Rattle.answer.specs.Commands.{nameOf, nameCells, levelOf, placeOf};
+ghost use Rattle.answer.specs.Commands.{nameOf, nameCells, levelOf, names, placeOf, endsOf, allEnds, placeAmong};
 ghost use Rattle.weight.specs.Ascii.{sameText};
 use weight::same_text;
 
@@ -135,16 +135,57 @@ fn is_name(word: &[u8], command: u8) -> bool
     same_text(&word[..len], &cells[..len])
 }
 
+fn joined(first: u8, last: u8) -> u16
+    ensures { λ r. ⌜ r ≡ first * 256 + last ⌝ }
+{
+    first as u16 * 256 + last as u16
+}
+
+// A word's first and last byte: no two names have both in common.
+fn ends_of(word: &[u8]) -> u16
+    ensures { λ r. ⌜ r ≡ endsOf (now (word .entry)) ⌝ }
+{
+    let len = word.len();
+    if len == 0 {
+        return 0;
+    }
+    joined(word[0], word[len - 1])
+}
+
+// The place of the name with these ends.
+fn place_of_ends(ends: u16) -> u8
+    ensures { λ r. ⌜ r ≡ placeAmong (allEnds names) ends ⌝ }
+{
+    match ends {
+        0x4930 => I0,
+        0x4931 => I1,
+        0x4932 => I2,
+        0x4933 => I3,
+        0x4934 => I4,
+        0x4935 => I5,
+        0x5353 => S,
+        0x5349 => SI,
+        0x5352 => SIR,
+        0x5A5A => Z,
+        0x5A49 => ZI,
+        0x4040 => RESET,
+        0x4444 => D,
+        0x4457 => DW,
+        0x5454 => T,
+        0x5441 => TA,
+        0x5443 => TAC,
+        0x5449 => TI,
+        _ => NONE,
+    }
+}
+
 // The place of a name, and NONE for any other word.
 pub fn find_command(word: &[u8]) -> u8
     ensures { λ r. ⌜ r ≡ placeOf (now (word .entry)) ⌝ }
 {
-    let mut command: u8 = 0;
-    while command < NONE {
-        if is_name(word, command) {
-            return command;
-        }
-        command += 1;
+    let command = place_of_ends(ends_of(word));
+    if is_name(word, command) {
+        return command;
     }
     NONE
 }

@@ -3,13 +3,13 @@
 use Prim.Native.Nat.{ℕ}
 use Prim.Native.String.{String}
 use mathlib.Core.Path.{_≡_, refl}
-use mathlib.Core.Bool.{Bool, true, false}
+use mathlib.Core.Bool.{true}
 use mathlib.Core.List.{List, [], _∷_, _++_, map}
 use lib.IntN.{ℤ, pos, negsuc}
 use lib.ListN.{replicate}
 use Rattle.answer.specs.Lines.{lineEnd, headText, weightText, lineOf}
 use Rattle.device.specs.Calls.{answerBytes}
-use Rattle.device.specs.Weighings.{weighed}
+use Rattle.commands.specs.Weighings.{weighed}
 use Rattle.model.specs.declared.profile.Profile.{Profile}
 use Rattle.model.specs.declared.profile.Text20.{Text20}
 use Rattle.model.specs.declared.profile.Text40.{Text40}

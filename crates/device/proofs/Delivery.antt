@@ -1,23 +1,25 @@
 -- The text that goes with an answer, and what a call returns by the room for it.
 -- Assumes nothing.
 use mathlib.Core.Path.{_≡_, refl, sym, ap, _∙_}
-use mathlib.Core.Bool.{Bool, true, false, cond}
+use mathlib.Core.Bool.{Bool, true, false}
 use mathlib.Core.List.{List, []}
 use Prim.Native.Nat.{ℕ, _≤_}
-use borrow.Author.Tests.{ne-eqb, leb-true}
-use lib.Dec.{eqb, leb}
+use native.Mathlib.Omega.{arith}
+use borrow.Author.Tests.{ne-eqb, le-leb, leb-true}
+use lib.Dec.{leb}
 use lib.ListN.{length}
 use Rattle.answer.specs.Lines.{lineOf, fitsRoom, emitted, laidIn}
 use Rattle.answer.specs.declared.answer.Answer.{Answer}
+use Rattle.answer.specs.declared.answer.Answer.the-variants.{Nothing}
 use Rattle.answer.specs.declared.emit.Emitted.{Emitted}
-use Rattle.device.specs.declared.call.Called.{Called}
-use Rattle.device.specs.declared.call.Refusal.the-variants as refusals
 use Rattle.model.specs.declared.profile.Profile.{Profile}
 use Rattle.model.specs.declared.profile.Text20.{Text20}
 use Rattle.model.specs.declared.profile.Text40.{Text40}
-use Rattle.device.specs.declared.react.Reaction.{Reaction}
+use Rattle.commands.specs.declared.react.Reaction.{Reaction}
+use Rattle.model.specs.declared.refusal.Refusal.the-variants as refusals
 use Rattle.model.specs.declared.state.State.{State}
-use Rattle.device.specs.Calls.{identityIn, answerBytes, delivered}
+use Rattle.commands.specs.Reactions.{reaction}
+use Rattle.device.specs.Calls.{identityIn, answerBytes, refusedCall, takenCall, delivered}
 use Rattle.line.specs.Judging.{isPrintable}
 use Rattle.weight.proofs.Allowed.{both-left}
 use Rattle.model.specs.Profiles.{identityText, textOf20, textOf40, textAllowed20, textAllowed40}
@@ -45,20 +47,34 @@ module _ (p : Profile) (a : Answer) where
   bytes-plain two three four five =
       bytes-with [] (rw (ne-eqb (identityIn a) 2 two, ne-eqb (identityIn a) 3 three, ne-eqb (identityIn a) 4 four, ne-eqb (identityIn a) 5 five))
 
+-- what was laid into the buffer, or did not fit, is what is delivered
 module _ (p : Profile) (s : State) (r : Reaction) (room : List ℕ) where
-  -- there is room
-  pub delivers : emitted (answerBytes p (r .answer)) room .fits ≡ true
-      → delivered p s r room
-      ≡ record { called = record { refusal = refusals.None; state = r .state; count = emitted (answerBytes p (r .answer)) room .count }; buffer = laidIn (answerBytes p (r .answer)) room }
-  unfolding delivered emitted
-  delivers e = rw e
+  module _ {e : Emitted} (told : e ≡ emitted (answerBytes p (r .answer)) room) where
+    told-room : {b : Bool} → e .fits ≡ b → fitsRoom (answerBytes p (r .answer)) room ≡ b
+    unfolding emitted
+    told-room f = sym (ap (λ (x : Emitted). x .fits) told) ∙ f
 
-  -- there is none
-  pub withholds : emitted (answerBytes p (r .answer)) room .fits ≡ false
-      → delivered p s r room
-      ≡ record { called = record { refusal = refusals.Room; state = s; count = 0 }; buffer = laidIn (answerBytes p (r .answer)) room }
-  unfolding delivered emitted laidIn
-  withholds e = rw e
+    pub delivered-fits : e .fits ≡ true → takenCall (r .state) (e .count) ≡ delivered p s r room .called
+    unfolding delivered emitted
+    delivered-fits f = rw (told, told-room f)
+
+    pub delivered-refused : e .fits ≡ false → refusedCall refusals.Room s ≡ delivered p s r room .called
+    unfolding delivered
+    delivered-refused f = rw (told-room f)
+
+  pub delivered-buffer : laidIn (answerBytes p (r .answer)) room ≡ delivered p s r room .buffer
+  unfolding delivered laidIn
+  delivered-buffer = go (fitsRoom (answerBytes p (r .answer)) room) refl
+    where
+      go : (b : Bool) → fitsRoom (answerBytes p (r .answer)) room ≡ b → laidIn (answerBytes p (r .answer)) room ≡ delivered p s r room .buffer
+      go true f = rw f
+      go false f = rw f
+
+-- no answer leaves the buffer as it was
+pub delivered-nothing : (p : Profile) (s t : State) (room : List ℕ)
+    → delivered p s (reaction t Nothing) room ≡ record { called = takenCall t 0; buffer = room }
+unfolding delivered answerBytes lineOf laidIn
+delivered-nothing p s t room = rw (le-leb 0 (length room) (omega arith))
 
 -- an allowed text is no longer than its cells
 pub short20 : (t : Text20) → textAllowed20 t ≡ true → t .len ≤ 20

@@ -6,7 +6,7 @@ use mathlib.Core.List.{List}
 use Prim.Native.Nat.{ℕ}
 use Rattle.answer.specs.Lines.{fitsRoom}
 use Rattle.answer.specs.declared.answer.Answer.the-variants.{Text}
-use Rattle.device.specs.declared.react.Reaction.{Reaction}
+use Rattle.commands.specs.declared.react.Reaction.{Reaction}
 use Rattle.device.specs.Calls.{
   Outcome,
   numberOfRefusal,
@@ -18,12 +18,12 @@ use Rattle.device.specs.Calls.{
   byteOutcome,
   sampleOutcome,
 }
-use Rattle.device.specs.Reactions.{byteReaction, sampleReaction, reaction}
+use Rattle.commands.specs.Reactions.{byteReaction, sampleReaction}
 use Rattle.model.specs.declared.profile.Profile.{Profile}
 use Rattle.model.specs.declared.state.State.{State}
 use Rattle.model.specs.declared.weighing.Load.{Load}
 use Rattle.model.specs.Profiles.{profileAllowed}
-use Rattle.model.specs.States.{stateAllowed, startState}
+use Rattle.model.specs.States.{stateAllowed}
 
 abbrev pub numberIn : Outcome → ℕ
 numberIn o = numberOfRefusal (o .called .refusal)

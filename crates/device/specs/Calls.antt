@@ -2,22 +2,22 @@
 -- Assumes nothing.
 use Prim.Native.Nat.{ℕ}
 use mathlib.Core.Path.{_≡_}
-use mathlib.Core.Bool.{Bool, true, false, not}
-use mathlib.Core.List.{List, []}
+use mathlib.Core.Bool.{Bool, true, false}
+use mathlib.Core.List.{List}
 use lib.ListN.{length}
 use Rattle.answer.specs.declared.answer.Answer.{Answer}
 use Rattle.answer.specs.declared.answer.Answer.the-variants.{Nothing, Plain, Weight, Refused, Text, Listed, CommandList, Versions}
 use Rattle.answer.specs.Lines.{lineOf, fitsRoom, laidIn}
-use Rattle.device.specs.declared.call.Refusal.{Refusal}
-use Rattle.device.specs.declared.call.Refusal.the-variants as refusals
+use Rattle.model.specs.declared.refusal.Refusal.{Refusal}
+use Rattle.model.specs.declared.refusal.Refusal.the-variants as refusals
 use Rattle.device.specs.declared.call.Called.{Called}
 use Rattle.model.specs.declared.profile.Profile.{Profile}
-use Rattle.device.specs.declared.react.Reaction.{Reaction}
+use Rattle.commands.specs.declared.react.Reaction.{Reaction}
 use Rattle.model.specs.declared.state.State.{State}
 use Rattle.model.specs.declared.weighing.Load.{Load}
 use Rattle.model.specs.Profiles.{profileAllowed, identityText}
 use Rattle.model.specs.States.{stateAllowed, startState}
-use Rattle.device.specs.Reactions.{byteReaction, sampleReaction, reaction}
+use Rattle.commands.specs.Reactions.{byteReaction, lineReaction, sampleReaction, reaction}
 
 -- the paper's number
 abbrev pub numberOfRefusal : Refusal → ℕ
@@ -25,6 +25,12 @@ numberOfRefusal refusals.None = 0
 numberOfRefusal refusals.Profile = 1
 numberOfRefusal refusals.State = 2
 numberOfRefusal refusals.Room = 3
+
+abbrev pub isRefused : Refusal → Bool
+isRefused refusals.None = false
+isRefused refusals.Profile = true
+isRefused refusals.State = true
+isRefused refusals.Room = true
 
 -- the command whose text goes with an answer; 0, which has none, for every other
 abbrev pub identityIn : Answer → ℕ
@@ -54,6 +60,10 @@ pub record Outcome : Type 0 where
 abbrev pub refusedCall : Refusal → State → Called
 refusedCall r s = record { refusal = r; state = s; count = 0 }
 
+-- with n bytes of answer
+abbrev pub takenCall : State → ℕ → Called
+takenCall s n = record { refusal = refusals.None; state = s; count = n }
+
 abbrev pub refused : Refusal → State → List ℕ → Outcome
 refused r s room = record { called = refusedCall r s; buffer = room }
 
@@ -66,7 +76,7 @@ unfoldable pub delivered : Profile → State → Reaction → List ℕ → Outco
 delivered p s r room =
     let bytes = answerBytes p (r .answer) in
     chosenOutcome (fitsRoom bytes room)
-    (record { called = record { refusal = refusals.None; state = r .state; count = length bytes }; buffer = laidIn bytes room })
+    (record { called = takenCall (r .state) (length bytes); buffer = laidIn bytes room })
     (refused refusals.Room s room)
 
 -- 1: profile refused, before anything else
@@ -80,6 +90,10 @@ ofState p s room next = chosenOutcome (stateAllowed p s) next (refused refusals.
 -- power-on sends the I4 line; it reads no earlier state
 unfoldable pub powerOnOutcome : Profile → State → List ℕ → Outcome
 powerOnOutcome p s room = ofProfile p s room (delivered p s (reaction startState (Text 4)) room)
+
+-- a byte that ends the line of the state: a law shows that byteOutcome is this for such a byte
+unfoldable pub lineOutcome : Profile → State → List ℕ → Outcome
+lineOutcome p s room = ofProfile p s room (ofState p s room (delivered p s (lineReaction p s) room))
 
 unfoldable pub byteOutcome : Profile → State → ℕ → Bool → List ℕ → Outcome
 byteOutcome p s b bad room = ofProfile p s room (ofState p s room (delivered p s (byteReaction p s b bad) room))
@@ -100,3 +114,8 @@ pub record ByteCalled (p : Profile) (s : State) (b : ℕ) (bad : Bool) (room : L
 pub record SampleCalled (p : Profile) (s : State) (load : Load) (stable : Bool) (room : List ℕ) (r : Called) (buffer : List ℕ) : Type 0 where
   pub returned : r ≡ sampleOutcome p s load stable room .called
   pub left : buffer ≡ sampleOutcome p s load stable room .buffer
+
+-- the same, of the part of the byte call that takes an ended line
+pub record LineCalled (p : Profile) (s : State) (room : List ℕ) (r : Called) (buffer : List ℕ) : Type 0 where
+  pub returned : r ≡ lineOutcome p s room .called
+  pub left : buffer ≡ lineOutcome p s room .buffer

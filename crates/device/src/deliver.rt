@@ -3,16 +3,12 @@ ghost use mathlib.Core.Path.{_≡_};
 ghost use mathlib.Core.Bool.{true};
 ghost use Prim.Native.Nat.{_≤_};
 ghost use Rattle.answer.specs.Lines.{lineOf, emitted, laidIn};
-ghost use Rattle.device.specs.Calls.{identityIn, answerBytes, delivered};
+ghost use Rattle.device.specs.Calls.{identityIn, answerBytes};
 ghost use Rattle.model.specs.Profiles.{profileAllowed, textOf20, textOf40};
-use crate::call::Called;
-use crate::call::Refusal;
-use crate::react::Reaction;
 use answer::Answer;
 use answer::Emitted;
 use answer::emit_answer;
 use model::Profile;
-use model::State;
 use model::Text20;
 use model::Text40;
 
@@ -53,7 +49,7 @@ fn emit_text40(answer: Answer, text: Text40, out: &mut [u8]) -> Emitted
 }
 
 // The answer with the text that goes with it.
-fn emit_due(profile: Profile, answer: Answer, out: &mut [u8]) -> Emitted
+pub fn emit_due(profile: Profile, answer: Answer, out: &mut [u8]) -> Emitted
     requires { ⌜ profileAllowed profile ≡ true ⌝ }
     ensures { λ r. ⌜ r ≡ emitted (answerBytes profile answer) (now (out .entry)) ⌝ }
     ensures { λ r. ⌜ now (out .exit) ≡ laidIn (answerBytes profile answer) (now (out .entry)) ⌝ }
@@ -76,27 +72,4 @@ fn emit_due(profile: Profile, answer: Answer, out: &mut [u8]) -> Emitted
         return emit_text20(answer, text, out);
     }
     emit_answer(answer, b"", out)
-}
-
-// What a call returns for a reaction: its state and its answer's length, or the given state where there is no room.
-pub fn deliver(profile: Profile, given: State, reaction: Reaction, out: &mut [u8]) -> Called
-    requires { ⌜ profileAllowed profile ≡ true ⌝ }
-    ensures { λ r. ⌜ r ≡ delivered profile given reaction (now (out .entry)) .called ⌝ }
-    ensures { λ r. ⌜ now (out .exit) ≡ delivered profile given reaction (now (out .entry)) .buffer ⌝ }
-{
-    let answer = reaction.answer;
-    let due = reaction.state;
-    let emitted = emit_due(profile, answer, out);
-    if emitted.fits {
-        return Called {
-            refusal: Refusal::None,
-            state: due,
-            count: emitted.count,
-        };
-    }
-    Called {
-        refusal: Refusal::Room,
-        state: given,
-        count: 0,
-    }
 }

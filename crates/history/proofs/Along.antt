@@ -9,8 +9,11 @@ use Rattle.model.specs.declared.state.State.{State}
 use Rattle.model.specs.declared.weighing.Load.{Load}
 use Rattle.device.specs.declared.call.Called.{Called}
 use Rattle.device.specs.Calls.{ByteCalled, SampleCalled}
-use Rattle.history.specs.Claim.{Calls, done, byteCall, sampleCall, byteEvent, sampleEvent}
+use Rattle.history.specs.Claim.{Calls, OverCalls, done, byteCall, sampleCall, byteEvent, sampleEvent}
+use Rattle.model.specs.Profiles.{profileAllowed}
+use Rattle.model.specs.States.{startState}
 use Rattle.history.specs.Tally.{Event}
+use Rattle.history.proofs.WaitsDelivered.{Started, started}
 
 -- A call's event is followed from x: what is kept holds again of the state after it, and a list of events that is accepted from
 -- there is accepted from x with the event before it.
@@ -48,3 +51,14 @@ along {s = s} step x i (byteCall {b = b} {bad = bad} {room = room} {r = r} {buff
 along {s = s} step x i (sampleCall {z = z} {stable = stable} {room = room} {r = r} {buffer = buffer} {es = es} call calls) =
     let f = step .sample s x z stable room r buffer i call in
     f .joins es (along step (f .next) (f .kept) calls)
+
+-- and so is every list of calls after a power-on, where the state of power-on is followed
+pub over-calls
+    : {X : Type 0} {Inv : Profile → State → X → Type 0} {accepted : Profile → X → List Event → Bool}
+    → ((p : Profile) → profileAllowed p ≡ true → Step p X (Inv p) (accepted p))
+    → (x : X)
+    → ((p : Profile) → Inv p startState x)
+    → OverCalls (λ p es. accepted p x es ≡ true)
+over-calls step x start p earlier room r buffer call none es s calls =
+    let on : Started p (r .state) = started p earlier room call none in
+    along (step p (on .profile)) x (rw (on .state) (start p)) calls

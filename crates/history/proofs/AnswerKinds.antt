@@ -4,11 +4,10 @@
 use Prim.Native.Nat.{ℕ, zero, suc}
 use mathlib.Core.Path.{_≡_, refl}
 use mathlib.Core.Bool.{Bool, true, false, cond, not, _&&_, false≢true}
-use mathlib.Core.List.{List, [], _∷_, _++_}
+use mathlib.Core.List.{List, _++_}
 use native.Mathlib.Omega.{arith}
 use borrow.Author.Tests.{leb-true}
 use lib.Dec.{leb}
-use lib.ListN.{getD}
 use Rattle.answer.specs.declared.answer.Answer.the-variants.{Nothing, Plain, Weight, Refused, Text, CommandList, Versions}
 use Rattle.answer.specs.declared.answer.Error.{Error}
 use Rattle.answer.specs.declared.answer.Error.the-variants.{Syntax, Transmission, Logical}
@@ -16,12 +15,12 @@ use Rattle.answer.specs.declared.answer.Number.{Number}
 use Rattle.answer.specs.declared.answer.Status.{Status}
 use Rattle.answer.specs.declared.answer.Status.the-variants.{A, B, S, D, I, L, Over, Under}
 use Rattle.answer.specs.Commands.{names}
+use Rattle.answer.proofs.Names.{at-name}
 use Rattle.answer.specs.Lines.{lineEnd, statusText, headText, listedLine, listedFrom, lineOf}
 use Rattle.model.specs.declared.profile.Profile.{Profile}
-use Rattle.device.specs.Weighings.{headOf, placeS, placeZ, placeZI, placeD, placeDW, placeT, placeTA, placeTAC, placeTI}
+use Rattle.commands.specs.Weighings.{headOf, placeS, placeZ, placeZI, placeD, placeDW, placeT, placeTA, placeTAC, placeTI}
 use Rattle.device.specs.Calls.{answerBytes}
 use Rattle.weight.specs.Ascii.{ascii}
-use Rattle.weight.proofs.Allowed.{both-left, both-right}
 use Rattle.history.specs.Tally.{grantsZero, grantsTare, grantsClear, tellsTare, tellsNet}
 
 -- what the five tests of the tally find in a line
@@ -63,8 +62,8 @@ computed l = record { zero-is = refl; tare-is = refl; clear-is = refl; told-is =
 -- ---- one test of every name at once
 
 -- the five tests in one
-abbrev isSilent : List ℕ → Bool
-isSilent l = not (grantsZero l) && not (grantsTare l) && not (grantsClear l) && not (tellsTare l) && not (tellsNet l)
+abbrev grantsNothing : List ℕ → Bool
+grantsNothing l = not (grantsZero l) && not (grantsTare l) && not (grantsClear l) && not (tellsTare l) && not (tellsNet l)
 
 -- five tests that one test denies
 silent-by : (z t c a n : Bool) → (not z && not t && not c && not a && not n) ≡ true → (z ≡ false) × (t ≡ false) × (c ≡ false) × (a ≡ false) × (n ≡ false)
@@ -76,21 +75,10 @@ silent-by false false false true n e = absurd (false≢true e)
 silent-by false false false false true e = absurd (false≢true e)
 
 -- so the one test is enough
-silent-is : (l : List ℕ) → isSilent l ≡ true → Silent l
+silent-is : (l : List ℕ) → grantsNothing l ≡ true → Silent l
 silent-is l e =
     let h = silent-by (grantsZero l) (grantsTare l) (grantsClear l) (tellsTare l) (tellsNet l) e in
     record { zero-is = h .0; tare-is = h .1; clear-is = h .2; told-is = h .3; net-is = h .4 }
-
--- a test of every name, and of no name
-abbrev everyName : (List ℕ → Bool) → List (List ℕ) → Bool
-everyName f [] = f []
-everyName f (n ∷ ns) = f n && everyName f ns
-
--- it is passed at every place, past the end too
-at-name : (f : List ℕ → Bool) (ns : List (List ℕ)) (c : ℕ) → everyName f ns ≡ true → f (getD ns c []) ≡ true
-at-name f [] c e = e
-at-name f (n ∷ ns) zero e = both-left (f n) (everyName f ns) e
-at-name f (n ∷ ns) (suc c) e = at-name f ns c (both-right (f n) (everyName f ns) e)
 
 -- ---- the answers that grant and weigh nothing
 
@@ -107,7 +95,7 @@ isDenial Under = true
 
 -- a name with one of these
 abbrev isDenied : Status → List ℕ → Bool
-isDenied s n = isSilent (n ++ ascii " " ++ statusText s ++ lineEnd)
+isDenied s n = grantsNothing (n ++ ascii " " ++ statusText s ++ lineEnd)
 
 module _ (p : Profile) where
   -- no answer

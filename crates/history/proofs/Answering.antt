@@ -12,19 +12,21 @@ use Rattle.answer.specs.declared.answer.Status.{Status}
 use Rattle.answer.specs.declared.answer.Status.the-variants.{A, Over, Under}
 use Rattle.model.specs.declared.profile.Profile.{Profile}
 use Rattle.model.specs.declared.weighing.Weighing.{Weighing}
-use Rattle.device.specs.Weighings.{placeS, placeTAC, headOf, stability, grossOf, netOf, numberOf, inLimits, chosenWeighing, weighed, zeroed, tared, withZero, withTare, tareAnswer}
+use Rattle.commands.specs.Weighings.{placeS, placeTAC, headOf, stability, grossOf, netOf, numberOf, inLimits, chosenWeighing, weighed, zeroed, tared, withZero, withTare, tareAnswer}
 use Rattle.device.specs.Calls.{answerBytes}
 use Rattle.model.specs.Profiles.{profileAllowed}
 use Rattle.weight.specs.Ascii.{ascii, sameText}
 use Rattle.weight.specs.Reading.{isDecimal}
 use Rattle.weight.specs.Rounding.{exactFemtograms, Near}
 use Rattle.weight.specs.Printing.{printable}
+use Rattle.model.proofs.ProfileFacts.{allowed-profile}
 use Rattle.weight.proofs.Nearness.{near-refl}
 use Rattle.history.specs.Tally.{Tally, Input, taken, ends, endedText, typedText, typedTare, afterReset, tallied, holds}
 use Rattle.history.proofs.AnswerKinds.{Silent, Zeroes, Tares, Weighs, denied-silent, weighed-weighs, cleared-clears, told-tells}
-use Rattle.history.proofs.DueWeights.{TareInRange, resolution-allowed, net-printable, gross-printable, tare-printable}
+use Rattle.history.proofs.DueWeights.{InCapacity, net-printable, gross-printable, tare-printable}
 use Rattle.history.proofs.Following.{Follows, is-loaded, latest-is, gross-is, net-near, tare-near}
 use Rattle.history.proofs.Tallying.{after-silent, after-zeroes, after-tares, after-clears, after-typed, after-told, after-weighs, silent-holds, zeroes-holds, clears-holds, weighs-holds, tares-holds, told-holds, typed-holds}
+use Rattle.history.proofs.WaitsAnswer.{in-limits}
 use Rattle.history.proofs.WeightLines.{Shows, weighed-shows, told-shows}
 
 -- the tally accepts the answer l to the input i, and follows the weighing w after it
@@ -42,10 +44,10 @@ unfolding exactFemtograms
 zero-exact = refl
 
 -- the input ended no line that is the one good byte @
-module _ (p : Profile) (t : Tally) (i : Input) (w : Weighing) (calm : afterReset t i (taken t i) ≡ taken t i) (f : Follows w (taken t i)) where
+module _ (p : Profile) (t : Tally) (i : Input) (w : Weighing) (not-reset : afterReset t i (taken t i) ≡ taken t i) (f : Follows w (taken t i)) where
   -- an answer that grants and weighs nothing
   pub answered-quietly : (l : List ℕ) → Silent l → Answered p t i w l
-  answered-quietly l k = answered-silent p t i w l (rw calm f) k
+  answered-quietly l k = answered-silent p t i w l (rw not-reset f) k
 
   -- ---- Z, ZI
 
@@ -54,7 +56,7 @@ module _ (p : Profile) (t : Tally) (i : Input) (w : Weighing) (calm : afterReset
       record {
         accepted = zeroes-holds p t i l k (is-loaded w (taken t i) f sampled);
         follows =
-            rw (after-zeroes p t i l k, calm)
+            rw (after-zeroes p t i l k, not-reset)
             (record { latest = f .latest; zero = latest-is w (taken t i) f sampled; tare = rw zero-exact (near-refl 0 (pos 0)) });
       }
 
@@ -84,7 +86,7 @@ module _ (p : Profile) (t : Tally) (i : Input) (w : Weighing) (calm : afterReset
       record {
         accepted = clears-holds p t i _ (cleared-clears p);
         follows =
-            rw (after-clears p t i _ (cleared-clears p), calm)
+            rw (after-clears p t i _ (cleared-clears p), not-reset)
             (record { latest = f .latest; zero = f .zero; tare = rw zero-exact (near-refl 0 (pos 0)) });
       }
 
@@ -102,40 +104,32 @@ module _ (p : Profile) (t : Tally) (i : Input) (w : Weighing) (calm : afterReset
         record {
           accepted =
               weighs-holds p t i l (netOf w) s
-              (rw (after-weighs p t i l k, calm, k .net-is) (net-near p (resolution-allowed p allowed) w (taken t i) f sampled))
+              (rw (after-weighs p t i l k, not-reset, k .net-is) (net-near p (allowed-profile p allowed .resolution) w (taken t i) f sampled))
               k
               (is-loaded w (taken t i) f sampled);
-          follows = rw (after-weighs p t i l k, calm) f;
+          follows = rw (after-weighs p t i l k, not-reset) f;
         }
-
-    -- by the two tests of S
-    weighed-by
-        : (over under : Bool)
-        → ltZ (pos (p .capacity)) (grossOf w) ≡ over
-        → ltZ (grossOf w) (negℤ (pos (p .underload))) ≡ under
-        → TareInRange p (w .tare .0)
-        → w .sampled ≡ true
-        → Answered p t i w (answerBytes p (inLimits placeS over under (Weight (headOf placeS (stability w)) (numberOf p (netOf w)))))
-    weighed-by true under o u range sampled = answered-quietly _ (denied-silent p placeS Over refl)
-    weighed-by false true o u range sampled = answered-quietly _ (denied-silent p placeS Under refl)
-    weighed-by false false o u range sampled =
-        net-told _ (weighed-weighs p (w .stable) (numberOf p (netOf w)))
-        (weighed-shows p (netOf w) (net-printable p allowed (grossOf w) (w .tare .0) o u range) (w .stable))
-        sampled
 
     -- S, SI, SIR
     pub answered-weighed
-        : TareInRange p (w .tare .0)
+        : InCapacity (p .capacity) (w .tare .0)
         → w .sampled ≡ true
         → Answered p t i w (answerBytes p (weighed p w))
     unfolding weighed
     answered-weighed range sampled =
-        weighed-by (ltZ (pos (p .capacity)) (grossOf w)) (ltZ (grossOf w) (negℤ (pos (p .underload)))) refl refl range sampled
+        in-limits (λ a. Answered p t i w (answerBytes p a)) placeS (ltZ (pos (p .capacity)) (grossOf w)) (ltZ (grossOf w) (negℤ (pos (p .underload))))
+        (Weight (headOf placeS (stability w)) (numberOf p (netOf w)))
+        (answered-quietly _ (denied-silent p placeS Over refl))
+        (answered-quietly _ (denied-silent p placeS Under refl))
+        (λ o u.
+        net-told _ (weighed-weighs p (w .stable) (numberOf p (netOf w)))
+        (weighed-shows p (netOf w) (net-printable p allowed (grossOf w) (w .tare .0) o u range) (w .stable))
+        sampled)
 
     -- the tare becomes gross
     tare-followed : (l : List ℕ) → Tares l → w .sampled ≡ true → Follows (withTare w (grossOf w)) (tallied p t i l)
     tare-followed l k sampled =
-        rw (after-tares p t i l k, calm)
+        rw (after-tares p t i l k, not-reset)
         (record { latest = f .latest; zero = f .zero; tare = rw (gross-is w (taken t i) f sampled) (near-refl 0 (exactFemtograms (grossOf w))) })
 
     tare-granted : (l : List ℕ) → Tares l → Shows p (grossOf w) l → w .sampled ≡ true → Answered p t i (withTare w (grossOf w)) l
@@ -143,7 +137,7 @@ module _ (p : Profile) (t : Tally) (i : Input) (w : Weighing) (calm : afterReset
         record {
           accepted =
               tares-holds p t i l (grossOf w) s
-              (rw (k .net-is) (tare-near p (resolution-allowed p allowed) (withTare w (grossOf w)) (tallied p t i l) (tare-followed l k sampled)))
+              (rw (k .net-is) (tare-near p (allowed-profile p allowed .resolution) (withTare w (grossOf w)) (tallied p t i l) (tare-followed l k sampled)))
               k
               (is-loaded w (taken t i) f sampled);
           follows = tare-followed l k sampled;
@@ -177,17 +171,17 @@ module _ (p : Profile) (t : Tally) (i : Input) (w : Weighing) (calm : afterReset
     pub answered-told
         : ends t i ≡ true
         → sameText (endedText t i) (ascii "TA") ≡ true
-        → TareInRange p (w .tare .0)
+        → InCapacity (p .capacity) (w .tare .0)
         → Answered p t i w (answerBytes p (tareAnswer p (w .tare .0)))
     answered-told end alone range =
         let k = told-tells p (numberOf p (w .tare .0)) in
         let l = answerBytes p (tareAnswer p (w .tare .0)) in
-        let g : Follows w (tallied p t i l) = rw (after-told p t i l k alone, calm) f in
+        let g : Follows w (tallied p t i l) = rw (after-told p t i l k alone, not-reset) f in
         record {
           accepted =
               told-holds p t i l (w .tare .0)
               (told-shows p (w .tare .0) (tare-printable p allowed (w .tare .0) range))
-              (rw (k .net-is) (tare-near p (resolution-allowed p allowed) w (tallied p t i l) g))
+              (rw (k .net-is) (tare-near p (allowed-profile p allowed .resolution) w (tallied p t i l) g))
               k
               end
               alone;
@@ -201,18 +195,18 @@ module _ (p : Profile) (t : Tally) (i : Input) (w : Weighing) (calm : afterReset
         → sameText (endedText t i) (ascii "TA") ≡ false
         → isDecimal (typedText (endedText t i)) ≡ true
         → Near 1_000_000_000 (exactFemtograms m) (typedTare p (endedText t i))
-        → TareInRange p m
+        → InCapacity (p .capacity) m
         → Answered p t i (withTare w m) (answerBytes p (tareAnswer p m))
     answered-typed m end other decimal off range =
         let k = told-tells p (numberOf p m) in
         let l = answerBytes p (tareAnswer p m) in
         let g : Follows (withTare w m) (tallied p t i l) =
-        rw (after-typed p t i l k other, calm) (record { latest = f .latest; zero = f .zero; tare = off }) in
+        rw (after-typed p t i l k other, not-reset) (record { latest = f .latest; zero = f .zero; tare = off }) in
         record {
           accepted =
               typed-holds p t i l m
               (told-shows p m (tare-printable p allowed m range))
-              (rw (k .net-is) (tare-near p (resolution-allowed p allowed) (withTare w m) (tallied p t i l) g))
+              (rw (k .net-is) (tare-near p (allowed-profile p allowed .resolution) (withTare w m) (tallied p t i l) g))
               k
               end
               other

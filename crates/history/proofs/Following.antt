@@ -6,7 +6,7 @@ use mathlib.Core.Bool.{true, cond}
 use lib.IntN.{_-ℤ_}
 use Rattle.model.specs.declared.profile.Profile.{Profile}
 use Rattle.model.specs.declared.weighing.Weighing.{Weighing}
-use Rattle.device.specs.Weighings.{grossOf, netOf}
+use Rattle.commands.specs.Weighings.{grossOf, netOf}
 use Rattle.weight.specs.Rounding.{allowedResolution, stepFemtograms, printedFemtograms, exactFemtograms, placesOf, Near}
 use Rattle.weight.proofs.HalfStep.{half-step, exact-difference}
 use Rattle.weight.proofs.Nearness.{near-triangle, near-shift}

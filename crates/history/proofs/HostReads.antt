@@ -16,22 +16,21 @@ use Rattle.answer.specs.declared.answer.Error.{Error}
 use Rattle.answer.specs.declared.answer.Status.{Status}
 use Rattle.model.specs.declared.profile.Profile.{Profile}
 use Rattle.device.specs.Calls.{answerText, answerBytes}
-use Rattle.device.specs.Weighings.{headOf, numberOf}
+use Rattle.commands.specs.Weighings.{headOf, numberOf}
 use Rattle.history.specs.EndToEnd.{piecesAfter, piecesOf, valueHolds, piecesHold}
 use Rattle.history.specs.Tally.{Tally, isWeightAnswer, numberFemtograms, exactWeight, allowance, weightHolds}
 use Rattle.history.proofs.Pieces.{listed-first, formed-piece}
-use Rattle.history.proofs.WeightLines.{same-self, Shows}
+use Rattle.history.proofs.WeightLines.{Shows, places-printed, field-fits}
 use Rattle.host.specs.Forms.{plainForm, weightForm, isS, canForm}
 use Rattle.host.proofs.Inverse.{read-written}
-use Rattle.weight.specs.Field.{fitsField}
-use Rattle.weight.specs.Printing.{printable, printedNumber}
-use Rattle.weight.specs.Rounding.{allowedResolution, inRange, placesOf}
+use Rattle.weight.specs.Printing.{printable}
+use Rattle.weight.specs.Rounding.{placesOf}
 use Rattle.weight.specs.Units.{unitText}
-use Rattle.weight.proofs.Allowed.{both-right}
+use Rattle.weight.proofs.Named.{same-self}
 
 -- each piece of the answer is read, and what is read of a weight that the tally takes is near enough
-abbrev pub Heard : Profile → Answer → Type 0
-Heard p a = (t : Tally) → weightHolds p t (answerBytes p a) ≡ true → piecesHold p t (piecesOf (answerBytes p a)) ≡ true
+abbrev pub ReadByHost : Profile → Answer → Type 0
+ReadByHost p a = (t : Tally) → weightHolds p t (answerBytes p a) ≡ true → piecesHold p t (piecesOf (answerBytes p a)) ≡ true
 
 -- ---- an answer of one line
 
@@ -46,14 +45,14 @@ none-held : (p : Profile) (t : Tally) → piecesHold p t [] ≡ true
 unfolding piecesHold
 none-held p t = refl
 
--- so it is heard if its value holds
-pub formed-heard
+-- so it is read if its value holds
+pub formed-read
     : (p : Profile) (a : Answer)
     → canForm a (answerText p a) ≡ true
     → ((t : Tally) → weightHolds p t (answerBytes p a) ≡ true → valueHolds p t (answerBytes p a) a ≡ true)
-    → Heard p a
+    → ReadByHost p a
 unfolding answerBytes
-formed-heard p a form value t holds =
+formed-read p a form value t holds =
     rw (formed-piece a (answerText p a) form, read-back p t a (answerText p a) [] form, value t holds) (none-held p t)
 
 -- ---- no answer
@@ -63,9 +62,9 @@ no-pieces : (p : Profile) (t : Tally) → piecesHold p t (piecesOf []) ≡ true
 unfolding piecesOf piecesAfter
 no-pieces p t = none-held p t
 
-pub nothing-heard : (p : Profile) → Heard p Nothing
+pub nothing-read : (p : Profile) → ReadByHost p Nothing
 unfolding answerBytes lineOf
-nothing-heard p t holds = no-pieces p t
+nothing-read p t holds = no-pieces p t
 
 -- ---- I0
 
@@ -85,41 +84,31 @@ listed-held p t (suc n) c known =
     (listed-held p t n (suc c) (omega arith))
 
 -- all of them
-pub list-heard : (p : Profile) → Heard p CommandList
+pub list-read : (p : Profile) → ReadByHost p CommandList
 unfolding answerBytes lineOf
-list-heard p t holds = listed-held p t 18 0 (omega arith)
+list-read p t holds = listed-held p t 18 0 (omega arith)
 
 -- ---- answers of one line that are no weights
 
 -- an identification and a status
-pub plain-heard : (p : Profile) (c : ℕ) (s : Status) → plainForm c s ≡ true → Heard p (Plain (headOf c s))
-plain-heard p c s form = formed-heard p (Plain (headOf c s)) (rw form) (λ t holds. refl)
+pub plain-read : (p : Profile) (c : ℕ) (s : Status) → plainForm c s ≡ true → ReadByHost p (Plain (headOf c s))
+plain-read p c s form = formed-read p (Plain (headOf c s)) (rw form) (λ t holds. refl)
 
 -- ES, ET, EL
-pub refused-heard : (p : Profile) (e : Error) → Heard p (Refused e)
-refused-heard p e = formed-heard p (Refused e) refl (λ t holds. refl)
+pub refused-read : (p : Profile) (e : Error) → ReadByHost p (Refused e)
+refused-read p e = formed-read p (Refused e) refl (λ t holds. refl)
 
 -- I1
-pub versions-heard : (p : Profile) → Heard p Versions
-versions-heard p = formed-heard p Versions refl (λ t holds. refl)
+pub versions-read : (p : Profile) → ReadByHost p Versions
+versions-read p = formed-read p Versions refl (λ t holds. refl)
 
 -- I2 to I5
-pub text-heard : (p : Profile) (c : ℕ) → canForm (Text c) (answerText p (Text c)) ≡ true → Heard p (Text c)
-text-heard p c form = formed-heard p (Text c) form (λ t holds. refl)
+pub text-read : (p : Profile) (c : ℕ) → canForm (Text c) (answerText p (Text c)) ≡ true → ReadByHost p (Text c)
+text-read p c form = formed-read p (Text c) form (λ t holds. refl)
 
 -- ---- weights
 
 module _ (p : Profile) (w : ℤ) (fits : printable (p .resolution) w ≡ true) where
-  -- the number that is rendered
-  places-are : numberOf p w .places .0 ≡ placesOf (p .resolution) w
-  unfolding printedNumber
-  places-are = rw fits
-
-  -- fits its ten characters
-  field-fits : fitsField (p .resolution .decimals) (placesOf (p .resolution) w) ≡ true
-  unfolding printable
-  field-fits = both-right (allowedResolution (p .resolution) && inRange w) _ fits
-
   -- what the tally takes of its ten characters
   value-near : (t : Tally) (l : List ℕ) → isWeightAnswer l ≡ true → Shows p w l → weightHolds p t l ≡ true
       → leb (2 * natAbs (numberFemtograms p (p .resolution .decimals) (placesOf (p .resolution) w) -ℤ exactWeight t l)) (allowance p t) ≡ true
@@ -127,14 +116,14 @@ module _ (p : Profile) (w : ℤ) (fits : printable (p .resolution) w ≡ true) w
   value-near t l weight shows holds = rw (weight, shows .whole, shows .number) at holds
 
   -- the reader's number is the one that the tally compared
-  pub weight-heard
+  pub weight-read
       : (c : ℕ) (s : Status)
       → weightForm c s ≡ true
       → (isS c || nonNeg (placesOf (p .resolution) w)) ≡ true
       → isWeightAnswer (answerBytes p (Weight (headOf c s) (numberOf p w))) ≡ true
       → Shows p w (answerBytes p (Weight (headOf c s) (numberOf p w)))
-      → Heard p (Weight (headOf c s) (numberOf p w))
-  weight-heard c s form sign weight shows =
-      formed-heard p (Weight (headOf c s) (numberOf p w))
-      (rw (form, places-are, field-fits, sign))
-      (λ t holds. rw (same-self (unitText (p .resolution .unit)), places-are) (value-near t _ weight shows holds))
+      → ReadByHost p (Weight (headOf c s) (numberOf p w))
+  weight-read c s form sign weight shows =
+      formed-read p (Weight (headOf c s) (numberOf p w))
+      (rw (form, places-printed p w fits, field-fits p w fits, sign))
+      (λ t holds. rw (same-self (unitText (p .resolution .unit)), places-printed p w fits) (value-near t _ weight shows holds))

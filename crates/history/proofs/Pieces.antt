@@ -8,7 +8,7 @@ use mathlib.Core.List.{List, [], _∷_, _++_, append-assoc, append-nil, reverse,
 use borrow.Author.Tests.{ne-eqb, leb-true, not-true}
 use lib.Dec.{leb, ltb, eqb}
 use lib.IntN.{ℤ, pos, negsuc}
-use lib.ListN.{length, getD, replicate}
+use lib.ListN.{length, replicate}
 use Rattle.answer.specs.Commands.{names, nameOf, levelOf}
 use Rattle.answer.specs.Lines.{lineEnd, quoted, statusText, headText, weightText, errorText, listedLine, lineOf}
 use Rattle.answer.specs.declared.answer.Answer.{Answer}
@@ -20,6 +20,7 @@ use Rattle.answer.specs.declared.answer.Number.{Number}
 use Rattle.answer.specs.declared.answer.Status.{Status}
 use Rattle.answer.specs.declared.answer.Status.the-variants.{A, B, S, D, I, L, Over, Under}
 use Rattle.history.specs.EndToEnd.{piecesAfter, piecesOf}
+use Rattle.answer.proofs.Names.{at-name}
 use Rattle.host.specs.Forms.{isIdentity, canForm}
 use Rattle.line.specs.Judging.{isPrintable}
 use Rattle.weight.specs.Ascii.{ascii, digit, space}
@@ -155,20 +156,9 @@ weight-unbroken n =
     (joined f (ascii " ") (cells-unbroken (fitsField (n .decimals) (n .places .0)) (n .decimals) (n .places .0)) refl)
     (unit-unbroken (n .unit))
 
--- one test of the whole table of names
-abbrev allUnbroken : List (List ℕ) → Bool
-allUnbroken [] = true
-allUnbroken (n ∷ ns) = unbroken n && allUnbroken ns
-
--- it is passed at every place, past the end too
-each-unbroken : (ns : List (List ℕ)) (c : ℕ) → allUnbroken ns ≡ true → unbroken (getD ns c []) ≡ true
-each-unbroken [] c e = refl
-each-unbroken (n ∷ ns) zero e = both-left (unbroken n) (allUnbroken ns) e
-each-unbroken (n ∷ ns) (suc c) e = each-unbroken ns c (both-right (unbroken n) (allUnbroken ns) e)
-
 -- names
 name-unbroken : (c : ℕ) → unbroken (nameOf c) ≡ true
-name-unbroken c = each-unbroken names c refl
+name-unbroken c = at-name unbroken names c refl
 
 -- statuses
 status-unbroken : (s : Status) → unbroken (statusText s) ≡ true

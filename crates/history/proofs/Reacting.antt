@@ -5,7 +5,7 @@ use native.Mathlib.Omega.{arith}
 use mathlib.Core.Path.{_≡_, refl}
 use mathlib.Core.Bool.{Bool, true, false, cond, _&&_, _||_, or-true}
 use mathlib.Core.Logic.{_≢_}
-use borrow.Author.Tests.{leb-false, eqb-false, le-leb}
+use borrow.Author.Tests.{leb-false, eqb-false}
 use lib.Dec.{leb, eqb}
 use lib.IntN.{pos}
 use Rattle.answer.specs.declared.answer.Answer.the-variants.{Plain, CommandList, Versions}
@@ -13,7 +13,7 @@ use Rattle.answer.specs.declared.answer.Answer.the-variants as answers
 use Rattle.answer.specs.declared.answer.Status.the-variants.{A, I, L}
 use Rattle.answer.specs.Commands.{nameOf}
 use Rattle.model.specs.declared.profile.Profile.{Profile}
-use Rattle.device.specs.declared.react.Reaction.{Reaction}
+use Rattle.commands.specs.declared.react.Reaction.{Reaction}
 use Rattle.model.specs.declared.state.Pending.{Pending}
 use Rattle.model.specs.declared.state.Pending.the-variants.{Nothing, Weigh, Zero, Tare}
 use Rattle.model.specs.declared.state.State.{State}
@@ -21,9 +21,9 @@ use Rattle.model.specs.declared.weighing.Load.{Load}
 use Rattle.model.specs.declared.weighing.Weighing.{Weighing}
 use Rattle.device.specs.Calls.{answerBytes}
 use Rattle.model.specs.Profiles.{profileAllowed}
-use Rattle.device.specs.Reactions.{withWeighing, withWaiting, withRepeating, reaction, chosenReaction, measuredReaction, settled, begun, informed, weighing, zeroing, showing, taring, run, identificationOf, resetState, performed, notWaiting, placeOfPending, waited, sampleReaction}
+use Rattle.commands.specs.Reactions.{withWeighing, withWaiting, withRepeating, reaction, chosenReaction, measuredReaction, settled, begun, informed, weighing, zeroing, showing, taring, run, identificationOf, resetState, performed, notWaiting, placeOfPending, waited, sampleReaction}
 use Rattle.model.specs.States.{isPending}
-use Rattle.device.specs.Weighings.{placeZ, placeZI, placeDW, placeT, placeTA, placeTAC, placeTI, headOf, stability, grossOf, numberOf, weighed, withTare, withSample, zeroed, tared, tareAnswer}
+use Rattle.commands.specs.Weighings.{placeZ, placeZI, placeDW, placeT, placeTA, placeTAC, placeTI, headOf, stability, grossOf, numberOf, weighed, withTare, withSample, zeroed, tared, tareAnswer}
 use Rattle.line.specs.declared.judge.Verdict.{Verdict}
 use Rattle.line.specs.declared.judge.Verdict.the-variants.{Refused, Reset, Busy, Wrong, NoSample, Run, Preset, Show}
 use Rattle.line.specs.declared.receive.Line.{Line}
@@ -34,7 +34,7 @@ use Rattle.weight.proofs.Nearness.{near-refl}
 use Rattle.history.specs.Tally.{Tally, Input, byteIs, sampleIs, taken, ends, endedText, isResetLine, afterReset, withTareOf}
 use Rattle.history.proofs.AnswerKinds.{nothing-silent, refused-silent, list-silent, versions-silent, shown-silent, weight-shown-silent, denied-silent, text-silent, zeroed-zeroes, zeroed-now-zeroes, tared-tares, tared-now-tares}
 use Rattle.history.proofs.Answering.{Answered, answered-silent, answered-quietly, answered-zeroed, answered-cleared, answered-weighed, answered-tared, answered-told, answered-typed, zero-exact}
-use Rattle.history.proofs.DueWeights.{TareInRange}
+use Rattle.history.proofs.DueWeights.{InCapacity}
 use Rattle.history.proofs.Following.{Follows}
 use Rattle.history.proofs.Verdicts.{Says}
 use Rattle.history.proofs.WeightLines.{tared-shows, tared-now-shows}
@@ -58,21 +58,21 @@ module _
     (allowed : profileAllowed p ≡ true)
     (t : Tally)
     (i : Input)
-    (calm : afterReset t i (taken t i) ≡ taken t i)
+    (not-reset : afterReset t i (taken t i) ≡ taken t i)
   where
     -- what a waiting command makes of a stable sample
     settled-answered
         : (w : Weighing) (pending : Pending)
         → Follows w (taken t i)
-        → TareInRange p (w .tare .0)
+        → InCapacity (p .capacity) (w .tare .0)
         → w .sampled ≡ true
         → w .stable ≡ true
         → Answered p t i (settled p pending w .weighing) (answerBytes p (settled p pending w .answer))
-    settled-answered w Nothing f range sampled stable = answered-quietly p t i w calm f _ (nothing-silent p)
-    settled-answered w Weigh f range sampled stable = answered-weighed p t i w calm f allowed range sampled
-    settled-answered w Zero f range sampled stable = answered-zeroed p t i w calm f placeZ A (zeroed-zeroes p) sampled
+    settled-answered w Nothing f range sampled stable = answered-quietly p t i w not-reset f _ (nothing-silent p)
+    settled-answered w Weigh f range sampled stable = answered-weighed p t i w not-reset f allowed range sampled
+    settled-answered w Zero f range sampled stable = answered-zeroed p t i w not-reset f placeZ A (zeroed-zeroes p) sampled
     settled-answered w Tare f range sampled stable =
-        answered-tared p t i w calm f allowed placeT
+        answered-tared p t i w not-reset f allowed placeT
         (rw stable (tared-tares p (numberOf p (grossOf w))))
         (rw stable (tared-shows p (grossOf w)))
         sampled
@@ -80,7 +80,7 @@ module _
     module _
         (s : State)
         (f : Follows (s .weighing) (taken t i))
-        (range : TareInRange p (s .weighing .tare .0))
+        (range : InCapacity (p .capacity) (s .weighing .tare .0))
       where
         begun-by
             : (sampled stable : Bool) (pending : Pending)
@@ -91,8 +91,8 @@ module _
             (measuredReaction s (settled p pending (s .weighing)))
             (reaction (withWaiting s (record { pending = pending; unstable = 0 })) answers.Nothing))
         begun-by true true pending h k = settled-answered (s .weighing) pending f range h k
-        begun-by true false pending h k = answered-quietly p t i (s .weighing) calm f _ (nothing-silent p)
-        begun-by false stable pending h k = answered-quietly p t i (s .weighing) calm f _ (nothing-silent p)
+        begun-by true false pending h k = answered-quietly p t i (s .weighing) not-reset f _ (nothing-silent p)
+        begun-by false stable pending h k = answered-quietly p t i (s .weighing) not-reset f _ (nothing-silent p)
 
         -- judged at once, or waiting
         begun-reacted : (pending : Pending) → Reacted p t i (begun p s pending)
@@ -104,7 +104,7 @@ module _
     module _
         (s : State)
         (f : Follows (s .weighing) (taken t i))
-        (range : TareInRange p (s .weighing .tare .0))
+        (range : InCapacity (p .capacity) (s .weighing .tare .0))
         (c : ℕ)
         (sample : needsSample c ≡ true → s .weighing .sampled ≡ true)
       where
@@ -113,9 +113,9 @@ module _
             : (first second : Bool)
             → leb c 5 ≡ true
             → Reacted p t i (reaction s (cond first CommandList (cond second Versions (answers.Text c))))
-        informed-by true second h = answered-quietly p t i (s .weighing) calm f _ (list-silent p)
-        informed-by false true h = answered-quietly p t i (s .weighing) calm f _ (versions-silent p)
-        informed-by false false h = answered-quietly p t i (s .weighing) calm f _ (text-silent p c h)
+        informed-by true second h = answered-quietly p t i (s .weighing) not-reset f _ (list-silent p)
+        informed-by false true h = answered-quietly p t i (s .weighing) not-reset f _ (versions-silent p)
+        informed-by false false h = answered-quietly p t i (s .weighing) not-reset f _ (text-silent p c h)
 
         -- S, SI, SIR
         weighing-by
@@ -123,7 +123,7 @@ module _
             → (isSI c || isSIR c) ≡ now
             → Reacted p t i
             (chosenReaction now (reaction (withRepeating s (isSIR c)) (weighed p (s .weighing))) (begun p (withRepeating s false) Weigh))
-        weighing-by true h = answered-weighed p t i (s .weighing) calm f allowed range (sample (rw h))
+        weighing-by true h = answered-weighed p t i (s .weighing) not-reset f allowed range (sample (rw h))
         weighing-by false h = begun-reacted (withRepeating s false) f range Weigh
 
         weighing-reacted : Reacted p t i (weighing p s c)
@@ -137,7 +137,7 @@ module _
             → Reacted p t i
             (chosenReaction now (measuredReaction s (zeroed p (s .weighing) placeZI (stability (s .weighing)))) (begun p s Zero))
         zeroing-by true h =
-            answered-zeroed p t i (s .weighing) calm f placeZI (stability (s .weighing)) (zeroed-now-zeroes p (s .weighing .stable)) (sample (rw h (or-true (isSI c || isSIR c || isTI c))))
+            answered-zeroed p t i (s .weighing) not-reset f placeZI (stability (s .weighing)) (zeroed-now-zeroes p (s .weighing .stable)) (sample (rw h (or-true (isSI c || isSIR c || isTI c))))
         zeroing-by false h = begun-reacted s f range Zero
 
         zeroing-reacted : Reacted p t i (zeroing p s c)
@@ -157,14 +157,14 @@ module _
             (reaction s (tareAnswer p (s .weighing .tare .0))))))
         taring-by true now clear h alone = begun-reacted s f range Tare
         taring-by false true clear h alone =
-            answered-tared p t i (s .weighing) calm f allowed placeTI
+            answered-tared p t i (s .weighing) not-reset f allowed placeTI
             (tared-now-tares p (s .weighing .stable) (numberOf p (grossOf (s .weighing))))
             (λ fits. tared-now-shows p (grossOf (s .weighing)) fits (s .weighing .stable))
             (sample (rw (h, or-true (isSI c || isSIR c))))
-        taring-by false false true h alone = answered-cleared p t i (s .weighing) calm f
+        taring-by false false true h alone = answered-cleared p t i (s .weighing) not-reset f
         taring-by false false false h alone =
             let a = alone refl refl refl in
-            answered-told p t i (s .weighing) calm f allowed (a .0) (a .1) range
+            answered-told p t i (s .weighing) not-reset f allowed (a .0) (a .1) range
 
         taring-reacted
             : (eqb c placeT ≡ false → isTI c ≡ false → eqb c placeTAC ≡ false → (ends t i ≡ true) × (sameText (endedText t i) (ascii "TA") ≡ true))
@@ -183,7 +183,7 @@ module _
         run-by true b d e h alone = informed-by (eqb c 0) (eqb c 1) h
         run-by false true d e h alone = weighing-reacted
         run-by false false true e h alone = zeroing-reacted
-        run-by false false false true h alone = answered-quietly p t i (s .weighing) calm f _ (weight-shown-silent p)
+        run-by false false false true h alone = answered-quietly p t i (s .weighing) not-reset f _ (weight-shown-silent p)
         run-by false false false false h alone = taring-reacted (alone refl)
 
         -- a command that is run, whose line is its name alone
@@ -202,7 +202,7 @@ module _
     (m : Marked)
     (s : State)
     (f : Follows (s .weighing) t)
-    (range : TareInRange p (s .weighing .tare .0))
+    (range : InCapacity (p .capacity) (s .weighing .tare .0))
     (end : endsUnbounded (t .line) m ≡ true)
   where
     -- the byte leaves the weighing alone
@@ -239,7 +239,7 @@ module _
     performed-reacted l (Preset n) says =
         let typed = says .typed in
         answered-typed p t (byteIs m) (s .weighing) (no-reset (says .other)) byte-followed allowed (n .0) end (says .more) (typed .decimal) (typed .near)
-        (record { low = rw (typed .is) (le-leb 0 (typed .count) (omega arith)); high = rw (typed .is) (le-leb (typed .count) (p .capacity) (typed .limit)) })
+        (typed .range)
     performed-reacted l (Show n) says = answered-quietly p t (byteIs m) (s .weighing) (no-reset says) byte-followed _ (shown-silent p)
 
 -- ---- a byte that ends no line
@@ -261,13 +261,13 @@ module _
     (t : Tally)
     (s : State)
     (f : Follows (s .weighing) t)
-    (range : TareInRange p (s .weighing .tare .0))
+    (range : InCapacity (p .capacity) (s .weighing .tare .0))
     (z : Load)
   where
     -- no line ends
-    sample-calm : (stable : Bool) → afterReset t (sampleIs (z .0) stable) (taken t (sampleIs (z .0) stable)) ≡ taken t (sampleIs (z .0) stable)
+    sample-not-reset : (stable : Bool) → afterReset t (sampleIs (z .0) stable) (taken t (sampleIs (z .0) stable)) ≡ taken t (sampleIs (z .0) stable)
     unfolding afterReset
-    sample-calm stable = refl
+    sample-not-reset stable = refl
 
     -- the load is the latest on both sides
     sample-followed : (stable : Bool) → Follows (withSample (s .weighing) z stable) (taken t (sampleIs (z .0) stable))
@@ -283,10 +283,10 @@ module _
         (reaction (withWaiting (sampled stable) notWaiting) (Plain (headOf (placeOfPending (s .waiting .pending)) I)))
         (reaction (withWaiting (sampled stable) (record { pending = s .waiting .pending; unstable = s .waiting .unstable + 1 })) answers.Nothing))
     waited-by stable true =
-        answered-quietly p t (sampleIs (z .0) stable) (withSample (s .weighing) z stable) (sample-calm stable) (sample-followed stable) _
+        answered-quietly p t (sampleIs (z .0) stable) (withSample (s .weighing) z stable) (sample-not-reset stable) (sample-followed stable) _
         (denied-silent p (placeOfPending (s .waiting .pending)) I refl)
     waited-by stable false =
-        answered-quietly p t (sampleIs (z .0) stable) (withSample (s .weighing) z stable) (sample-calm stable) (sample-followed stable) _ (nothing-silent p)
+        answered-quietly p t (sampleIs (z .0) stable) (withSample (s .weighing) z stable) (sample-not-reset stable) (sample-followed stable) _ (nothing-silent p)
 
     waited-reacted : (stable : Bool) → Reacted p t (sampleIs (z .0) stable) (waited p (sampled stable))
     unfolding waited
@@ -301,12 +301,12 @@ module _
         (waited p (sampled stable)))
         (reaction (sampled stable) (cond repeating (weighed p (withSample (s .weighing) z stable)) answers.Nothing)))
     sample-by true repeating true =
-        settled-answered p allowed t (sampleIs (z .0) true) (sample-calm true) (withSample (s .weighing) z true) (s .waiting .pending) (sample-followed true) range refl refl
+        settled-answered p allowed t (sampleIs (z .0) true) (sample-not-reset true) (withSample (s .weighing) z true) (s .waiting .pending) (sample-followed true) range refl refl
     sample-by true repeating false = waited-reacted false
     sample-by false true stable =
-        answered-weighed p t (sampleIs (z .0) stable) (withSample (s .weighing) z stable) (sample-calm stable) (sample-followed stable) allowed range refl
+        answered-weighed p t (sampleIs (z .0) stable) (withSample (s .weighing) z stable) (sample-not-reset stable) (sample-followed stable) allowed range refl
     sample-by false false stable =
-        answered-quietly p t (sampleIs (z .0) stable) (withSample (s .weighing) z stable) (sample-calm stable) (sample-followed stable) _ (nothing-silent p)
+        answered-quietly p t (sampleIs (z .0) stable) (withSample (s .weighing) z stable) (sample-not-reset stable) (sample-followed stable) _ (nothing-silent p)
 
     pub sample-reacted : (stable : Bool) → Reacted p t (sampleIs (z .0) stable) (sampleReaction p s z stable)
     unfolding sampleReaction

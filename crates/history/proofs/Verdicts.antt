@@ -1,99 +1,75 @@
--- What the judgement of a finished line says of that line.
+-- What the judgement of a finished line says of that line, in the tally's words, and what it promises of its parameter.
 -- Assumes nothing.
-use Prim.Native.Nat.{ℕ, _-_, _<_}
-use native.Mathlib.Omega.{arith}
+use Prim.Native.Nat.{ℕ, _<_}
 use mathlib.Core.Path.{_≡_, refl, sym, ap, _∙_}
-use mathlib.Core.Bool.{Bool, true, false, cond, not, _&&_, _||_, true≢false, false≢true}
-use mathlib.Core.List.{List, [], _∷_, map}
-use borrow.Author.Tests.{leb-false, eqb-true, eqb-false}
-use lib.Dec.{leb, ltb, eqb}
-use lib.ListN.{length, length-map}
-use Rattle.answer.specs.Commands.{names, nameOf, placeIn, placeOf}
-use Rattle.answer.proofs.Names.{found-name}
+use mathlib.Core.Bool.{Bool, true, false, not, _&&_, true≢false, false≢true}
+use mathlib.Core.List.{List, map}
+use borrow.Author.Tests.{eqb-true, not-true}
+use Rattle.answer.specs.Commands.{nameOf}
 use Rattle.line.specs.declared.judge.Verdict.{Verdict}
 use Rattle.line.specs.declared.judge.Verdict.the-variants.{Refused, Reset, Busy, Wrong, NoSample, Run, Preset, Show}
-use Rattle.line.specs.Receiving.{lineLimit}
-use Rattle.line.specs.Judging.{beforeSpace, afterSpace, hasSpace, hasControl, commandIn, isD, isTA, isReset, takesParameters, needsSample, typedIn, amountIn, presetOf, isQuoted, isPreset, isWrong, ownRule, firstRow}
+use Rattle.line.specs.declared.receive.Line.{Line}
+use Rattle.line.specs.Judging.{isSIR, needsSample}
 use Rattle.line.specs.Unbounded.{Marked, byteIn, anyFaulty, judgementOf}
+use Rattle.line.proofs.Kept.{Holds}
+use Rattle.line.proofs.Verdicts.{GoodLine, Shown, reset-line, reset-judged, run-line, preset-line, show-line, show-cells}
 use Rattle.weight.specs.declared.units.WeightUnit.{WeightUnit}
 use Rattle.weight.specs.declared.rounding.Micrograms.{Micrograms}
-use Rattle.weight.specs.Ascii.{ascii, space, sameText}
-use Rattle.weight.specs.Units.{unitText}
+use Rattle.weight.specs.Ascii.{ascii, sameText}
 use Rattle.weight.proofs.Allowed.{both-left, both-right}
 use Rattle.weight.proofs.Named.{same-is}
 use Rattle.history.specs.Tally.{isResetLine, typedText}
+use Rattle.history.proofs.DueWeights.{InCapacity}
 use Rattle.history.proofs.TypedLines.{TypedAs, typed-as}
 
--- ---- a word alone in its line
+-- ---- @
 
-alone-by : (b : Bool) (c : ℕ) (t : List ℕ) → (hasSpace t ≡ false → beforeSpace t ≡ t) → (b || hasSpace t) ≡ false → cond b [] (c ∷ beforeSpace t) ≡ c ∷ t
-alone-by true c t later e = absurd (true≢false e)
-alone-by false c t later e = ap (λ (r : List ℕ). c ∷ r) (later e)
+abbrev pub resets : Verdict → Bool
+resets (Refused e) = false
+resets Reset = true
+resets (Busy c) = false
+resets (Wrong c) = false
+resets (NoSample c) = false
+resets (Run c) = false
+resets (Preset m) = false
+resets (Show n) = false
 
--- where there is no space, the first word is all
-word-alone : (t : List ℕ) → hasSpace t ≡ false → beforeSpace t ≡ t
-word-alone [] e = refl
-word-alone (c ∷ t) e = alone-by (eqb c space) c t (word-alone t) e
+resets-is : (v : Verdict) → resets v ≡ true → v ≡ Reset
+resets-is (Refused e) h = absurd (false≢true h)
+resets-is Reset h = refl
+resets-is (Busy c) h = absurd (false≢true h)
+resets-is (Wrong c) h = absurd (false≢true h)
+resets-is (NoSample c) h = absurd (false≢true h)
+resets-is (Run c) h = absurd (false≢true h)
+resets-is (Preset m) h = absurd (false≢true h)
+resets-is (Show n) h = absurd (false≢true h)
 
--- a known command with no space is its name
-named : (t : List ℕ) → hasSpace t ≡ false → commandIn t < 18 → t ≡ nameOf (commandIn t)
-unfolding commandIn
-named t e h = sym (found-name (beforeSpace t) h ∙ word-alone t e)
+-- two tests that hold together are the same
+same-tests : (a b : Bool) → (a ≡ true → b ≡ true) → (b ≡ true → a ≡ true) → a ≡ b
+same-tests true b f g = sym (f refl)
+same-tests false true f g = g refl
+same-tests false false f g = refl
 
--- ---- the one good byte @
+reset-good : (f : List Marked) → isResetLine f ≡ true → GoodLine f (ascii "@")
+reset-good f e =
+    record {
+      bytes = same-is (map byteIn f) (ascii "@") (both-right (not (anyFaulty f)) (sameText (map byteIn f) (ascii "@")) e);
+      good = not-true (anyFaulty f) (both-left (not (anyFaulty f)) (sameText (map byteIn f) (ascii "@")) e);
+    }
 
--- a test that cannot be passed
-contrary : (b : Bool) → (b ≡ true → ⊥) → b ≡ false
-contrary true h = absurd (h refl)
-contrary false h = refl
+module _ (capacity : ℕ) (unit : WeightUnit) (f : List Marked) (waiting sampled : Bool) where
+  reset-then : resets (judgementOf capacity unit f waiting sampled) ≡ true → isResetLine f ≡ true
+  reset-then e =
+      let g : GoodLine f (ascii "@") = reset-line capacity unit f waiting sampled (resets-is (judgementOf capacity unit f waiting sampled) e) in
+      rw (g .good, g .bytes)
 
-module _ (f : List Marked) (e : isResetLine f ≡ true) where
-  reset-text : map byteIn f ≡ ascii "@"
-  reset-text = same-is (map byteIn f) (ascii "@") (both-right (not (anyFaulty f)) (sameText (map byteIn f) (ascii "@")) e)
+  -- the line @, and no other, resets
+  pub reset-test : resets (judgementOf capacity unit f waiting sampled) ≡ isResetLine f
+  reset-test =
+      same-tests (resets (judgementOf capacity unit f waiting sampled)) (isResetLine f) reset-then
+      (λ e. ap resets (reset-judged capacity unit f waiting sampled (reset-good f e)))
 
-  reset-length : length f ≡ 1
-  reset-length = sym (length-map f byteIn) ∙ ap length reset-text
-
-  reset-known : (ltb lineLimit (length f) || hasControl (map byteIn f) || leb (length names) (commandIn (map byteIn f))) ≡ false
-  unfolding commandIn placeOf placeIn
-  reset-known = rw (reset-length, reset-text)
-
-  reset-named : commandIn (map byteIn f) ≡ 11
-  unfolding commandIn placeOf placeIn
-  reset-named = rw reset-text
-
-  reset-bare : hasSpace (map byteIn f) ≡ false
-  reset-bare = rw reset-text
-
--- ---- tests taken apart
-
--- no space where nothing may follow the name
-bare-by : (h d a : Bool) → d ≡ false → (a && h) ≡ false → (h && not (d || a)) ≡ false → h ≡ false
-bare-by true true a x y e = absurd (true≢false x)
-bare-by true false true x y e = absurd (true≢false y)
-bare-by true false false x y e = absurd (true≢false e)
-bare-by false d a x y e = refl
-
--- parameters of TA that are not wrong
-right-by : (x a h q : Bool) → (x || (a && (h && not q))) ≡ false → (a && h) ≡ true → q ≡ true
-right-by true a h q e g = absurd (true≢false e)
-right-by false true true true e g = refl
-right-by false true true false e g = absurd (true≢false e)
-right-by false true false q e g = absurd (false≢true g)
-right-by false false h q e g = absurd (false≢true g)
-
--- a known name
-neither-right : (a b : Bool) → (a || b) ≡ false → b ≡ false
-neither-right true b e = absurd (true≢false e)
-neither-right false b e = e
-
--- a sample that is not missing
-there-by : (n s : Bool) → (n && not s) ≡ false → n ≡ true → s ≡ true
-there-by true true e g = refl
-there-by true false e g = absurd (true≢false e)
-there-by false s e g = absurd (false≢true g)
-
--- ---- what each verdict says
+-- ---- what each verdict says of the line
 
 -- the line of a command run: its name alone
 pub record RunSays (f : List Marked) (sampled : Bool) (c : ℕ) : Type 0 where
@@ -108,7 +84,6 @@ pub record PresetSays (capacity : ℕ) (unit : WeightUnit) (f : List Marked) (m 
   pub more : sameText (map byteIn f) (ascii "TA") ≡ false
   pub typed : TypedAs capacity unit (typedText (map byteIn f)) (m .0)
 
--- what a verdict says of the line
 abbrev pub Says : ℕ → WeightUnit → List Marked → Bool → Verdict → Type 0
 Says capacity unit f sampled (Refused e) = isResetLine f ≡ false
 Says capacity unit f sampled Reset = isResetLine f ≡ true
@@ -119,106 +94,58 @@ Says capacity unit f sampled (Run c) = RunSays f sampled c
 Says capacity unit f sampled (Preset m) = PresetSays capacity unit f m
 Says capacity unit f sampled (Show n) = isResetLine f ≡ false
 
-module _ (capacity : ℕ) (unit : WeightUnit) (f : List Marked) (sampled : Bool) where
-  -- its bytes, and the command that they name
-  abbrev t : List ℕ
-  t = map byteIn f
+-- a sample that is not missing
+there-by : (n s : Bool) → (n && not s) ≡ false → n ≡ true → s ≡ true
+there-by true true e g = refl
+there-by true false e g = absurd (true≢false e)
+there-by false s e g = absurd (false≢true g)
 
-  abbrev c : ℕ
-  c = commandIn (map byteIn f)
+module _ (capacity : ℕ) (unit : WeightUnit) (f : List Marked) (waiting sampled : Bool) where
+  by-verdict : {v : Verdict} → judgementOf capacity unit f waiting sampled ≡ v → isResetLine f ≡ resets v
+  by-verdict h = sym (reset-test capacity unit f waiting sampled) ∙ ap resets h
 
-  -- ---- rows that no @ reaches
+  pub verdict-says : (v : Verdict) → judgementOf capacity unit f waiting sampled ≡ v → Says capacity unit f sampled v
+  verdict-says (Refused e) h = by-verdict h
+  verdict-says Reset h = by-verdict h
+  verdict-says (Busy c) h = by-verdict h
+  verdict-says (Wrong c) h = by-verdict h
+  verdict-says (NoSample c) h = by-verdict h
+  verdict-says (Run c) h =
+      let line = run-line capacity unit f waiting sampled h in
+      record {
+        other = by-verdict h;
+        text = line .line .bytes;
+        known = line .a-name;
+        sample = there-by (needsSample c) sampled (line .has-sample);
+      }
+  verdict-says (Preset m) h =
+      let line = preset-line capacity unit f waiting sampled h in
+      record {
+        other = by-verdict h;
+        more = rw (line .line .bytes);
+        typed = typed-as capacity unit (typedText (map byteIn f)) m (line .number) (line .within);
+      }
+  verdict-says (Show n) h = by-verdict h
 
-  not-faulty : anyFaulty f ≡ true → isResetLine f ≡ false
-  not-faulty h = rw h
+-- ---- what a verdict on l promises: SIR runs only after a sample, a preset lies in 0..C, and a shown text is one that D takes
 
-  not-unknown : (ltb lineLimit (length f) || hasControl t || leb (length names) c) ≡ true → isResetLine f ≡ false
-  not-unknown h = contrary (isResetLine f) (λ e. true≢false (sym h ∙ reset-known f e))
+abbrev pub Proper : ℕ → Bool → Line → Verdict → Type 0
+Proper capacity sampled l (Refused e) = Unit
+Proper capacity sampled l Reset = Unit
+Proper capacity sampled l (Busy c) = Unit
+Proper capacity sampled l (Wrong c) = Unit
+Proper capacity sampled l (NoSample c) = Unit
+Proper capacity sampled l (Run c) = isSIR c ≡ true → sampled ≡ true
+Proper capacity sampled l (Preset m) = InCapacity capacity (m .0)
+Proper capacity sampled l (Show n) = Shown l n
 
-  not-extra : (hasSpace t && not (takesParameters c)) ≡ true → isResetLine f ≡ false
-  not-extra h = contrary (isResetLine f) (λ e. true≢false (sym (both-left (hasSpace t) _ h) ∙ reset-bare f e))
-
-  not-named : isReset c ≡ false → isResetLine f ≡ false
-  not-named h = contrary (isResetLine f) (λ e. eqb-false c 11 h (reset-named f e))
-
-  -- ---- the row of @
-
-  reset-row : anyFaulty f ≡ false → (hasSpace t && not (takesParameters c)) ≡ false → isReset c ≡ true → isResetLine f ≡ true
-  reset-row good bare reset =
-      let e : c ≡ 11 = eqb-true c 11 reset in
-      let b : hasSpace t ≡ false = bare-by (hasSpace t) (isD c) (isTA c) (rw e refl) (rw e refl) bare in
-      let n : t ≡ ascii "@" = named t b (omega arith) ∙ ap nameOf e in
-      rw (good, n)
-
-  -- ---- the command's own rule
-
-  module _
-      (unknown : (ltb lineLimit (length f) || hasControl t || leb (length names) c) ≡ false)
-      (extra : (hasSpace t && not (takesParameters c)) ≡ false)
-      (reset : isReset c ≡ false)
-      (wrong : isWrong capacity unit c t ≡ false)
-      (missing : (needsSample c && not sampled) ≡ false)
-    where
-      is-known : c < 18
-      is-known = leb-false 18 c (neither-right (ltb lineLimit (length f) || hasControl t) (leb 18 c) unknown)
-
-      preset-right : (isTA c && hasSpace t) ≡ true → isPreset capacity unit (afterSpace t) ≡ true
-      unfolding isWrong
-      preset-right h = right-by (isD c && not (hasSpace t && isQuoted (afterSpace t))) (isTA c) (hasSpace t) (isPreset capacity unit (afterSpace t)) wrong h
-
-      preset-read : (isTA c && hasSpace t) ≡ true → presetOf capacity (typedIn unit (afterSpace t)) ≡ true
-      unfolding isPreset
-      preset-read h = both-right (hasSpace (afterSpace t) && sameText (afterSpace (afterSpace t)) (unitText unit)) _ (preset-right h)
-
-      own-by
-          : (d a : Bool)
-          → isD c ≡ d
-          → (isTA c && hasSpace t) ≡ a
-          → Says capacity unit f sampled (cond d (Show (length (afterSpace t) - 2)) (cond a (Preset (amountIn (typedIn unit (afterSpace t)))) (Run c)))
-      own-by true a h k = not-named reset
-      own-by false true h k =
-          record {
-            other = not-named reset;
-            more =
-                contrary (sameText t (ascii "TA"))
-                (λ e. true≢false (sym (both-right (isTA c) (hasSpace t) k) ∙ ap hasSpace (same-is t (ascii "TA") e)));
-            typed = typed-as capacity unit (beforeSpace (afterSpace t)) (preset-read k);
-          }
-      own-by false false h k =
-          record {
-            other = not-named reset;
-            text = named t (bare-by (hasSpace t) (isD c) (isTA c) h k extra) is-known;
-            known = is-known;
-            sample = there-by (needsSample c) sampled missing;
-          }
-
-      own-says : Says capacity unit f sampled (ownRule unit c t)
-      unfolding ownRule
-      own-says = own-by (isD c) (isTA c && hasSpace t) refl refl
-
-  -- ---- the table
-
-  row-says
-      : (faulty unknown extra reset waiting wrong missing : Bool)
-      → anyFaulty f ≡ faulty
-      → (ltb lineLimit (length f) || hasControl t || leb (length names) c) ≡ unknown
-      → (hasSpace t && not (takesParameters c)) ≡ extra
-      → isReset c ≡ reset
-      → isWrong capacity unit c t ≡ wrong
-      → (needsSample c && not sampled) ≡ missing
-      → Says capacity unit f sampled (firstRow faulty unknown extra reset waiting wrong missing c (ownRule unit c t))
-  row-says true unknown extra reset waiting wrong missing good known bare name right there = not-faulty good
-  row-says false true extra reset waiting wrong missing good known bare name right there = not-unknown known
-  row-says false false true reset waiting wrong missing good known bare name right there = not-extra bare
-  row-says false false false true waiting wrong missing good known bare name right there = reset-row good bare name
-  row-says false false false false true wrong missing good known bare name right there = not-named name
-  row-says false false false false false true missing good known bare name right there = not-named name
-  row-says false false false false false false true good known bare name right there = not-named name
-  row-says false false false false false false false good known bare name right there = own-says known bare name right there
-
-  -- the verdict on a finished line says this of it
-  pub judged-says : (waiting : Bool) → Says capacity unit f sampled (judgementOf capacity unit f waiting sampled)
-  unfolding judgementOf
-  judged-says waiting =
-      row-says (anyFaulty f) (ltb lineLimit (length f) || hasControl t || leb (length names) c) (hasSpace t && not (takesParameters c)) (isReset c) waiting
-      (isWrong capacity unit c t) (needsSample c && not sampled) refl refl refl refl refl refl
+module _ (capacity : ℕ) (unit : WeightUnit) (f : List Marked) (waiting sampled : Bool) (l : Line) (held : Holds l f) where
+  pub verdict-proper : (v : Verdict) → judgementOf capacity unit f waiting sampled ≡ v → Proper capacity sampled l v
+  verdict-proper (Refused e) h = tt
+  verdict-proper Reset h = tt
+  verdict-proper (Busy c) h = tt
+  verdict-proper (Wrong c) h = tt
+  verdict-proper (NoSample c) h = tt
+  verdict-proper (Run c) h = λ sir. verdict-says capacity unit f waiting sampled (Run c) h .sample (rw (eqb-true c 8 sir))
+  verdict-proper (Preset m) h = verdict-says capacity unit f waiting sampled (Preset m) h .typed .range
+  verdict-proper (Show n) h = show-cells l f waiting n held (show-line capacity unit f waiting sampled h)

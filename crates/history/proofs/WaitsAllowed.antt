@@ -1,34 +1,34 @@
 -- An allowed state stays one: no reaction leads to refusal 2.
 -- Assumes nothing.
 use mathlib.Core.Path.{_≡_, refl, sym, _∙_}
-use mathlib.Core.Bool.{Bool, true, false, not, _&&_, _||_, false≢true, or-true}
+use mathlib.Core.Bool.{Bool, true, false, not, _&&_, _||_, or-true}
 use mathlib.Core.List.{List}
 use Prim.Native.Nat.{ℕ, _+_, _≤_}
 use native.Mathlib.Omega.{arith}
-use borrow.Author.Tests.{leb-false, ltb-false, le-leb, lt-ltb}
+use borrow.Author.Tests.{leb-false, le-leb, lt-ltb}
 use lib.Dec.{leb, ltb, eqb}
-use lib.IntN.{ℤ, pos, negsuc, negℤ}
+use lib.IntN.{ℤ, pos, negℤ}
 use lib.ListN.{take, drop}
 use lib.Seq.{take-at}
 use lib.Signed.{leZ, ltZ}
 use Rattle.answer.specs.declared.answer.Status.{Status}
 use Rattle.answer.specs.declared.answer.Status.the-variants.{A}
-use Rattle.answer.specs.declared.answer.Answer.the-variants as answers
 use Rattle.model.specs.declared.profile.Profile.{Profile}
-use Rattle.device.specs.declared.react.Reaction.{Reaction}
+use Rattle.commands.specs.declared.react.Reaction.{Reaction}
 use Rattle.model.specs.declared.state.Display.{Display}
 use Rattle.model.specs.declared.state.Pending.{Pending}
 use Rattle.model.specs.declared.state.Pending.the-variants.{Nothing, Weigh, Zero, Tare}
 use Rattle.model.specs.declared.state.State.{State}
 use Rattle.model.specs.declared.state.Waiting.{Waiting}
 use Rattle.model.specs.declared.weighing.Load.{Load}
-use Rattle.device.specs.declared.weighing.Measured.{Measured}
+use Rattle.commands.specs.declared.weighing.Measured.{Measured}
 use Rattle.model.specs.declared.weighing.Weighing.{Weighing}
 use Rattle.model.specs.Profiles.{textAllowed20, profileAllowed}
-use Rattle.device.specs.Reactions.{chosenReaction, withLine, withWeighing, withWaiting, withRepeating, withDisplay, notWaiting, settled, begun, weighing, zeroing, taring, run, weightShown, resetState, textShown, performed, byteReaction, waited, sampleReaction}
-use Rattle.model.specs.States.{zeroAllowed, tareAllowed, lineAllowed, displayAllowed, isPending, waitingAllowed, repeatingAllowed, stateAllowed}
-use Rattle.device.specs.Weighings.{placeZ, placeZI, placeDW, placeT, placeTI, placeTAC, stability, grossOf, withTare, withZero, withSample, chosenWeighing, zeroed, tared}
+use Rattle.commands.specs.Reactions.{chosenReaction, withLine, withWeighing, withWaiting, withRepeating, withDisplay, notWaiting, settled, begun, weighing, zeroing, taring, run, weightShown, resetState, textShown, performed, byteReaction, waited, sampleReaction}
+use Rattle.model.specs.States.{isPending, stateAllowed}
+use Rattle.commands.specs.Weighings.{placeZ, placeZI, placeDW, placeT, placeTI, placeTAC, stability, grossOf, withTare, withZero, withSample, chosenWeighing, zeroed, tared}
 use Rattle.model.proofs.ProfileFacts.{allowed-profile}
+use Rattle.model.proofs.StateFacts.{StateTests, allowed-tests, tests-allow}
 use Rattle.line.specs.declared.judge.Verdict.{Verdict}
 use Rattle.line.specs.declared.judge.Verdict.the-variants.{Refused, Reset, Busy, Wrong, NoSample, Run, Preset, Show}
 use Rattle.line.specs.declared.receive.Line.{Line}
@@ -36,53 +36,15 @@ use Rattle.line.specs.Judging.{isSI, isSIR, judgement}
 use Rattle.line.specs.Receiving.{clearedLine, receivedByte}
 use Rattle.line.specs.Unbounded.{Marked, endsUnbounded, finishedLine}
 use Rattle.line.proofs.Kept.{Holds, Keeps, markedAs, ends-alike, holds-finished, holds-judged, keeps-byte}
-use Rattle.weight.proofs.Allowed.{both-hold, both-left, both-right}
-use Rattle.history.proofs.WaitsPromise.{Shown, InCapacity, Proper, verdict-proper}
+use Rattle.line.proofs.Verdicts.{Shown}
+use Rattle.weight.proofs.Allowed.{both-hold}
+use Rattle.history.proofs.DueWeights.{InCapacity, not-below}
+use Rattle.history.proofs.Verdicts.{Proper, verdict-proper}
 
 -- a choice by its test
 pub by-choice : (P : Reaction → Type 0) (b : Bool) {x y : Reaction} → (b ≡ true → P x) → (b ≡ false → P y) → P (chosenReaction b x y)
 by-choice P true f g = f refl
 by-choice P false f g = g refl
-
--- ---- the six tests
-
-pub record Six (p : Profile) (s : State) : Type 0 where
-  pub zero : zeroAllowed p s ≡ true
-  pub tare : tareAllowed p s ≡ true
-  pub line : lineAllowed s ≡ true
-  pub display : displayAllowed s ≡ true
-  pub waiting : waitingAllowed p s ≡ true
-  pub repeating : repeatingAllowed s ≡ true
-
-all-six : (a b c d e f : Bool) → a ≡ true → b ≡ true → c ≡ true → d ≡ true → e ≡ true → f ≡ true → (a && b && c && d && e && f) ≡ true
-all-six a b c d e f ha hb hc hd he hf = rw (ha, hb, hc, hd, he) hf
-
-module _ (p : Profile) (s : State) where
-  pub six-allow : Six p s → stateAllowed p s ≡ true
-  unfolding stateAllowed
-  six-allow h =
-      all-six (zeroAllowed p s) (tareAllowed p s) (lineAllowed s) (displayAllowed s) (waitingAllowed p s) (repeatingAllowed s)
-      (h .zero) (h .tare) (h .line) (h .display) (h .waiting) (h .repeating)
-
-  pub allowed-six : stateAllowed p s ≡ true → Six p s
-  unfolding stateAllowed
-  allowed-six h =
-      let two = zeroAllowed p s && tareAllowed p s in
-      let three = two && lineAllowed s in
-      let four = three && displayAllowed s in
-      let five = four && waitingAllowed p s in
-      let first5 = both-left five (repeatingAllowed s) h in
-      let first4 = both-left four (waitingAllowed p s) first5 in
-      let first3 = both-left three (displayAllowed s) first4 in
-      let first2 = both-left two (lineAllowed s) first3 in
-      record {
-        zero = both-left (zeroAllowed p s) (tareAllowed p s) first2;
-        tare = both-right (zeroAllowed p s) (tareAllowed p s) first2;
-        line = both-right two (lineAllowed s) first3;
-        display = both-right three (displayAllowed s) first4;
-        waiting = both-right four (waitingAllowed p s) first5;
-        repeating = both-right five (repeatingAllowed s) h;
-      }
 
 -- ---- zero and tare
 
@@ -90,13 +52,6 @@ module _ (p : Profile) (s : State) where
 pub record InRanges (p : Profile) (w : Weighing) : Type 0 where
   pub zero : (leZ (negℤ (pos (p .zeroing))) (w .zero .0) && leZ (w .zero .0) (pos (p .zeroing))) ≡ true
   pub tare : (leZ (pos 0) (w .tare .0) && leZ (w .tare .0) (pos (p .capacity))) ≡ true
-
--- what is not below is at least as large
-not-below : (a b : ℤ) → ltZ a b ≡ false → leZ b a ≡ true
-not-below (pos a) (pos b) e = le-leb b a (ltb-false a b e)
-not-below (pos a) (negsuc b) e = refl
-not-below (negsuc a) (pos b) e = absurd (false≢true (sym e))
-not-below (negsuc a) (negsuc b) e = le-leb a b (ltb-false b a e)
 
 -- what a command made of a weighing: zero and tare in their ranges, and the sample kept
 record Moved (p : Profile) (w v : Weighing) : Type 0 where
@@ -166,11 +121,11 @@ module _ (p : Profile) (w : Weighing) (old : InRanges p w) where
 or-right : (a b c : Bool) → b ≡ c → (not a || b) ≡ true → (not a || c) ≡ true
 or-right a b c e h = rw e at h
 
-module _ (p : Profile) (s : State) (h : Six p s) where
+module _ (p : Profile) (s : State) (h : StateTests p s) where
   ranges-of : InRanges p (s .weighing)
   ranges-of = record { zero = h .zero; tare = h .tare }
 
-  with-weighing : (v : Weighing) → Moved p (s .weighing) v → Six p (withWeighing s v)
+  with-weighing : (v : Weighing) → Moved p (s .weighing) v → StateTests p (withWeighing s v)
   with-weighing v m =
       record {
         zero = m .ranges .zero;
@@ -181,62 +136,62 @@ module _ (p : Profile) (s : State) (h : Six p s) where
         repeating = or-right (s .repeating) (s .weighing .sampled) (v .sampled) (sym (m .sampled)) (h .repeating);
       }
 
-  with-waiting : (w : Waiting) → (not (isPending (w .pending)) || ltb (w .unstable) (p .timeout)) ≡ true → Six p (withWaiting s w)
+  with-waiting : (w : Waiting) → (not (isPending (w .pending)) || ltb (w .unstable) (p .timeout)) ≡ true → StateTests p (withWaiting s w)
   with-waiting w e =
       record { zero = h .zero; tare = h .tare; line = h .line; display = h .display; waiting = e; repeating = h .repeating }
 
-  with-repeating : (r : Bool) → (not r || s .weighing .sampled) ≡ true → Six p (withRepeating s r)
+  with-repeating : (r : Bool) → (not r || s .weighing .sampled) ≡ true → StateTests p (withRepeating s r)
   with-repeating r e =
       record { zero = h .zero; tare = h .tare; line = h .line; display = h .display; waiting = h .waiting; repeating = e }
 
-  with-display : (d : Display) → (not (d .shown) || textAllowed20 (d .text)) ≡ true → Six p (withDisplay s d)
+  with-display : (d : Display) → (not (d .shown) || textAllowed20 (d .text)) ≡ true → StateTests p (withDisplay s d)
   with-display d e =
       record { zero = h .zero; tare = h .tare; line = h .line; display = e; waiting = h .waiting; repeating = h .repeating }
 
-  with-line : (l : Line) → leb (l .len) 64 ≡ true → Six p (withLine s l)
+  with-line : (l : Line) → leb (l .len) 64 ≡ true → StateTests p (withLine s l)
   with-line l e =
       record { zero = h .zero; tare = h .tare; line = e; display = h .display; waiting = h .waiting; repeating = h .repeating }
 
 -- ---- a finished line
 
-module _ (p : Profile) (patience : 1 ≤ p .timeout) (s : State) (h : Six p s) where
+module _ (p : Profile) (least : 1 ≤ p .timeout) (s : State) (h : StateTests p s) where
   waits-anew : (pending : Pending) → (not (isPending pending) || ltb 0 (p .timeout)) ≡ true
   waits-anew pending = rw (lt-ltb 0 (p .timeout) (omega arith)) (or-true (not (isPending pending)))
 
-  begun-allowed : (pending : Pending) → Six p (begun p s pending .state)
+  begun-allowed : (pending : Pending) → StateTests p (begun p s pending .state)
   unfolding begun
   begun-allowed pending =
-      by-choice (λ x. Six p (x .state)) (s .weighing .sampled && s .weighing .stable)
+      by-choice (λ x. StateTests p (x .state)) (s .weighing .sampled && s .weighing .stable)
       (λ e. with-weighing p s h (settled p pending (s .weighing) .weighing) (settled-moved p (s .weighing) (ranges-of p s h) pending))
       (λ e. with-waiting p s h (record { pending = pending; unstable = 0 }) (waits-anew pending))
 
-module _ (p : Profile) (patience : 1 ≤ p .timeout) (s : State) (h : Six p s) where
-  weighing-allowed : (c : ℕ) → (isSIR c ≡ true → s .weighing .sampled ≡ true) → Six p (weighing p s c .state)
+module _ (p : Profile) (least : 1 ≤ p .timeout) (s : State) (h : StateTests p s) where
+  weighing-allowed : (c : ℕ) → (isSIR c ≡ true → s .weighing .sampled ≡ true) → StateTests p (weighing p s c .state)
   unfolding weighing
   weighing-allowed c sampled =
-      by-choice (λ x. Six p (x .state)) (isSI c || isSIR c)
+      by-choice (λ x. StateTests p (x .state)) (isSI c || isSIR c)
       (λ e. with-repeating p s h (isSIR c) (then (isSIR c) (s .weighing .sampled) sampled))
-      (λ e. begun-allowed p patience (withRepeating s false) (with-repeating p s h false refl) Weigh)
+      (λ e. begun-allowed p least (withRepeating s false) (with-repeating p s h false refl) Weigh)
     where
       then : (a b : Bool) → (a ≡ true → b ≡ true) → (not a || b) ≡ true
       then true b f = f refl
       then false b f = refl
 
-  zeroing-allowed : (c : ℕ) → Six p (zeroing p s c .state)
+  zeroing-allowed : (c : ℕ) → StateTests p (zeroing p s c .state)
   unfolding zeroing
   zeroing-allowed c =
-      by-choice (λ x. Six p (x .state)) (eqb c placeZI)
+      by-choice (λ x. StateTests p (x .state)) (eqb c placeZI)
       (λ e.
       with-weighing p s h (zeroed p (s .weighing) placeZI (stability (s .weighing)) .weighing)
       (zeroed-moved p (s .weighing) (ranges-of p s h) placeZI (stability (s .weighing))))
-      (λ e. begun-allowed p patience s h Zero)
+      (λ e. begun-allowed p least s h Zero)
 
-  taring-allowed : (c : ℕ) → Six p (taring p s c .state)
+  taring-allowed : (c : ℕ) → StateTests p (taring p s c .state)
   unfolding taring
   taring-allowed c =
-      let Goal : Reaction → Type 0 = λ x. Six p (x .state) in
+      let Goal : Reaction → Type 0 = λ x. StateTests p (x .state) in
       by-choice Goal (eqb c placeT)
-      (λ e. begun-allowed p patience s h Tare)
+      (λ e. begun-allowed p least s h Tare)
       (λ e.
       by-choice Goal (eqb c placeTI)
       (λ f. with-weighing p s h (tared p (s .weighing) placeTI .weighing) (tared-moved p (s .weighing) (ranges-of p s h) placeTI))
@@ -247,10 +202,10 @@ module _ (p : Profile) (patience : 1 ≤ p .timeout) (s : State) (h : Six p s) w
       (tare-moved p (s .weighing) (ranges-of p s h) (pos 0) (untared p (s .weighing) (ranges-of p s h))))
       (λ g. h)))
 
-  run-allowed : (c : ℕ) → (isSIR c ≡ true → s .weighing .sampled ≡ true) → Six p (run p s c .state)
+  run-allowed : (c : ℕ) → (isSIR c ≡ true → s .weighing .sampled ≡ true) → StateTests p (run p s c .state)
   unfolding run
   run-allowed c sampled =
-      let Goal : Reaction → Type 0 = λ x. Six p (x .state) in
+      let Goal : Reaction → Type 0 = λ x. StateTests p (x .state) in
       by-choice Goal (leb c 5)
       (λ e. h)
       (λ e.
@@ -261,7 +216,7 @@ module _ (p : Profile) (patience : 1 ≤ p .timeout) (s : State) (h : Six p s) w
       (λ g. zeroing-allowed c)
       (λ g. by-choice Goal (leb c placeDW) (λ i. with-display p s h (weightShown (s .display)) refl) (λ i. taring-allowed c))))
 
-  reset-allowed : Six p (resetState s)
+  reset-allowed : StateTests p (resetState s)
   unfolding resetState
   reset-allowed =
       record {
@@ -278,7 +233,7 @@ module _ (p : Profile) (patience : 1 ≤ p .timeout) (s : State) (h : Six p s) w
   shown-allowed l n t =
       rw (le-leb n 20 (t .short), take-at (take n (drop 3 (l .bytes))) (drop n (s .display .text .bytes)) n (t .long)) (t .printable)
 
-  pub performed-allowed : (l : Line) (v : Verdict) → Proper (p .capacity) (s .weighing .sampled) l v → Six p (performed p s l v .state)
+  pub performed-allowed : (l : Line) (v : Verdict) → Proper (p .capacity) (s .weighing .sampled) l v → StateTests p (performed p s l v .state)
   performed-allowed l (Refused e) t = h
   performed-allowed l Reset t = reset-allowed
   performed-allowed l (Busy c) t = h
@@ -295,46 +250,46 @@ module _ (p : Profile) (profile : profileAllowed p ≡ true) (s : State) (allowe
   unfolding byteReaction
   byte-allowed u b bad keeps =
       let l : Line = receivedByte (s .line) b bad .line in
-      let h : Six p s = allowed-six p s allowed in
+      let h : StateTests p s = allowed-tests p s allowed in
       let same : receivedByte (s .line) b bad .ended ≡ endsUnbounded u (markedAs b bad) = ends-alike (s .line) u keeps b bad in
       by-choice (λ x. stateAllowed p (x .state) ≡ true) (receivedByte (s .line) b bad .ended)
       (λ e.
       let held : Holds l (finishedLine u) = holds-finished (s .line) u keeps b bad (sym same ∙ e) in
       let t : State = withLine s (clearedLine l) in
       let v : Verdict = judgement (p .capacity) (p .resolution .unit) l (isPending (s .waiting .pending)) (s .weighing .sampled) in
-      six-allow p (performed p t l v .state)
+      tests-allow p (performed p t l v .state)
       (performed-allowed p (allowed-profile p profile .limits .timeout-least) t (with-line p s h (clearedLine l) refl) l v
-      (verdict-proper (p .capacity) (p .resolution .unit) (isPending (s .waiting .pending)) (s .weighing .sampled) l (finishedLine u) held v
+      (verdict-proper (p .capacity) (p .resolution .unit) (finishedLine u) (isPending (s .waiting .pending)) (s .weighing .sampled) l held v
       (sym (holds-judged (p .capacity) (p .resolution .unit) (isPending (s .waiting .pending)) (s .weighing .sampled) l (finishedLine u) held)))))
       (λ e.
       let kept = keeps-byte (s .line) u keeps b bad (sym same ∙ e) in
-      six-allow p (withLine s l) (with-line p s h l (le-leb (l .len) 64 (omega (arith, kept .held .len)))))
+      tests-allow p (withLine s l) (with-line p s h l (le-leb (l .len) 64 (omega (arith, kept .held .len)))))
 
   pub sample-allowed : (z : Load) (stable : Bool) → stateAllowed p (sampleReaction p s z stable .state) ≡ true
   unfolding sampleReaction waited
   sample-allowed z stable =
-      let h : Six p s = allowed-six p s allowed in
+      let h : StateTests p s = allowed-tests p s allowed in
       let t : State = withWeighing s (withSample (s .weighing) z stable) in
-      let k : Six p t =
+      let k : StateTests p t =
       record { zero = h .zero; tare = h .tare; line = h .line; display = h .display; waiting = h .waiting; repeating = or-true (not (s .repeating)) }
       in
-      let free : Six p (withWaiting t notWaiting) = with-waiting p t k notWaiting refl in
+      let free : StateTests p (withWaiting t notWaiting) = with-waiting p t k notWaiting refl in
       let Goal : Reaction → Type 0 = λ x. stateAllowed p (x .state) ≡ true in
       by-choice Goal (isPending (s .waiting .pending))
       (λ waits.
       by-choice Goal stable
       (λ e.
       let m : Measured = settled p (s .waiting .pending) (t .weighing) in
-      six-allow p (withWeighing (withWaiting t notWaiting) (m .weighing))
+      tests-allow p (withWeighing (withWaiting t notWaiting) (m .weighing))
       (with-weighing p (withWaiting t notWaiting) free (m .weighing)
       (settled-moved p (t .weighing) (ranges-of p t k) (s .waiting .pending))))
       (λ e.
       by-choice Goal (leb (p .timeout) (s .waiting .unstable + 1))
-      (λ most. six-allow p (withWaiting t notWaiting) free)
+      (λ most. tests-allow p (withWaiting t notWaiting) free)
       (λ less.
       let w : Waiting = record { pending = s .waiting .pending; unstable = s .waiting .unstable + 1 } in
-      six-allow p (withWaiting t w)
+      tests-allow p (withWaiting t w)
       (with-waiting p t k w
       (rw (lt-ltb (s .waiting .unstable + 1) (p .timeout) (leb-false (p .timeout) (s .waiting .unstable + 1) less))
       (or-true (not (isPending (s .waiting .pending)))))))))
-      (λ none. six-allow p t k)
+      (λ none. tests-allow p t k)

@@ -14,8 +14,9 @@ use Rattle.model.specs.declared.profile.Profile.{Profile}
 use Rattle.model.specs.declared.weighing.Weighing.{Weighing}
 use Rattle.device.specs.Calls.{answerBytes}
 use Rattle.model.specs.Profiles.{identityText}
-use Rattle.device.specs.Weighings.{placeS, grossOf, netOf, headOf, numberOf, stability, inLimits, weighed, zeroed, tared}
+use Rattle.commands.specs.Weighings.{placeS, grossOf, netOf, headOf, numberOf, stability, inLimits, weighed, zeroed, tared}
 use Rattle.answer.specs.declared.answer.Status.{Status}
+use Rattle.answer.specs.declared.answer.Status.the-variants.{Over, Under}
 use Rattle.weight.specs.Ascii.{ascii, digit}
 use Rattle.history.specs.Waits.{isEmpty}
 
@@ -49,27 +50,37 @@ silent-empty p Versions = refl
 
 -- ---- the answers of S, Z and T
 
-limits-sent : (c : ℕ) (over under : Bool) (a : Answer) → isSilent a ≡ false → isSilent (inLimits c over under a) ≡ false
-limits-sent c true under a e = refl
-limits-sent c false true a e = refl
-limits-sent c false false a e = e
+-- +, - or what is granted
+pub in-limits
+    : (P : Answer → Type 0) (c : ℕ) (over under : Bool) (a : Answer)
+    → P (Plain (headOf c Over))
+    → P (Plain (headOf c Under))
+    → (over ≡ false → under ≡ false → P a)
+    → P (inLimits c over under a)
+in-limits P c true under a o u h = o
+in-limits P c false true a o u h = u
+in-limits P c false false a o u h = h refl refl
+
+-- an answer that is sent
+abbrev IsSent : Answer → Type 0
+IsSent a = isSilent a ≡ false
 
 module _ (p : Profile) (w : Weighing) where
   pub weighed-sent : isSilent (weighed p w) ≡ false
   unfolding weighed
   weighed-sent =
-      limits-sent placeS (ltZ (pos (p .capacity)) (grossOf w)) (ltZ (grossOf w) (negℤ (pos (p .underload))))
+      in-limits IsSent placeS (ltZ (pos (p .capacity)) (grossOf w)) (ltZ (grossOf w) (negℤ (pos (p .underload))))
       (Weight (headOf placeS (stability w)) (numberOf p (netOf w)))
-      refl
+      refl refl (λ o u. refl)
 
   pub zeroed-sent : (c : ℕ) (granted : Status) → isSilent (zeroed p w c granted .answer) ≡ false
   unfolding zeroed
   zeroed-sent c granted =
-      limits-sent c (ltZ (pos (p .zeroing)) (w .load .0)) (ltZ (w .load .0) (negℤ (pos (p .zeroing)))) (Plain (headOf c granted)) refl
+      in-limits IsSent c (ltZ (pos (p .zeroing)) (w .load .0)) (ltZ (w .load .0) (negℤ (pos (p .zeroing)))) (Plain (headOf c granted)) refl refl (λ o u. refl)
 
   pub tared-sent : (c : ℕ) → isSilent (tared p w c .answer) ≡ false
   unfolding tared
   tared-sent c =
-      limits-sent c (ltZ (pos (p .capacity)) (grossOf w)) (ltZ (grossOf w) (pos 0))
+      in-limits IsSent c (ltZ (pos (p .capacity)) (grossOf w)) (ltZ (grossOf w) (pos 0))
       (Weight (headOf c (stability w)) (numberOf p (grossOf w)))
-      refl
+      refl refl (λ o u. refl)

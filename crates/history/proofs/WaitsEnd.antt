@@ -6,15 +6,13 @@ use mathlib.Core.Bool.{Bool, true, false}
 use mathlib.Core.List.{List, _∷_}
 use Prim.Native.Nat.{ℕ}
 use lib.ListN.{take}
-use Rattle.answer.specs.declared.answer.Answer.the-variants as answers
 use Rattle.device.specs.declared.call.Called.{Called}
-use Rattle.device.specs.declared.call.Refusal.the-variants as refusals
 use Rattle.model.specs.declared.profile.Profile.{Profile}
-use Rattle.device.specs.declared.react.Reaction.{Reaction}
+use Rattle.commands.specs.declared.react.Reaction.{Reaction}
 use Rattle.model.specs.declared.state.State.{State}
 use Rattle.device.specs.Calls.{numberOfRefusal, answerBytes}
 use Rattle.model.specs.Profiles.{profileAllowed}
-use Rattle.device.specs.Reactions.{withLine, performed, byteReaction, sampleReaction}
+use Rattle.commands.specs.Reactions.{withLine, performed, byteReaction, sampleReaction}
 use Rattle.model.specs.States.{isPending, stateAllowed, startState}
 use Rattle.model.proofs.StateFacts.{start-allowed}
 use Rattle.line.specs.declared.receive.Line.{Line}
@@ -24,9 +22,9 @@ use Rattle.line.specs.Unbounded.{Marked, endsUnbounded, finishedLine}
 use Rattle.line.proofs.Kept.{Holds, Keeps, keeps-cleared, keeps-empty, markedAs, ends-alike, holds-finished, keeps-byte, holds-judged}
 use Rattle.history.specs.Tally.{Input, byteIs, sampleIs}
 use Rattle.history.specs.Waits.{Waits, startWaits, afterInput, waitsHold, WaitsEnd}
-use Rattle.history.proofs.Along.{Followed, Step, along}
+use Rattle.history.proofs.Along.{Followed, Step, over-calls}
 use Rattle.history.proofs.WaitsAllowed.{by-choice, byte-allowed, sample-allowed}
-use Rattle.history.proofs.WaitsDelivered.{Delivered, given, withheld, byte-delivered, sample-delivered, Started, started}
+use Rattle.history.proofs.WaitsDelivered.{Delivered, given, withheld, byte-delivered, sample-delivered}
 use Rattle.history.proofs.WaitsPerformed.{same-line, performed-kind}
 use Rattle.history.proofs.WaitsStep.{Follows, Reacts, ended-reacts, joined-reacts, sample-reacts}
 
@@ -99,6 +97,4 @@ unfolding startState
 start-follows p = record { allowed = start-allowed p; line = keeps-empty; waiting = refl; counted = λ e. refl }
 
 pub waits-end : WaitsEnd
-waits-end p earlier room r buffer call none es s calls =
-    let on : Started p (r .state) = started p earlier room call none in
-    along (step p (on .profile)) startWaits (rw (on .state) (start-follows p)) calls
+waits-end = over-calls {X = Waits} {Inv = Follows} {accepted = waitsHold} step startWaits start-follows

@@ -1,7 +1,7 @@
 -- What a finished line does to the wait: it is answered and changes nothing there, or it is @, or it begins a wait.
 -- Assumes nothing.
 use mathlib.Core.Path.{_≡_, refl, sym}
-use mathlib.Core.Bool.{Bool, true, false, cond, _&&_, _||_, true≢false}
+use mathlib.Core.Bool.{Bool, true, false, cond, _&&_, _||_}
 use mathlib.Core.List.{List}
 use Prim.Native.Nat.{ℕ, _<_, _≤_}
 use native.Mathlib.Omega.{arith}
@@ -11,30 +11,23 @@ use Rattle.answer.specs.declared.answer.Answer.the-variants as answers
 use Rattle.answer.specs.declared.answer.Status.the-variants.{A}
 use Rattle.answer.specs.Commands.{nameOf}
 use Rattle.model.specs.declared.profile.Profile.{Profile}
-use Rattle.device.specs.declared.react.Reaction.{Reaction}
+use Rattle.commands.specs.declared.react.Reaction.{Reaction}
 use Rattle.model.specs.declared.state.Pending.{Pending}
 use Rattle.model.specs.declared.state.Pending.the-variants.{Nothing, Weigh, Zero, Tare}
 use Rattle.model.specs.declared.state.State.{State}
 use Rattle.model.specs.declared.weighing.Weighing.{Weighing}
-use Rattle.device.specs.Reactions.{withRepeating, reaction, notWaiting, settled, begun, weighing, zeroing, taring, run, resetState, performed}
+use Rattle.commands.specs.Reactions.{withRepeating, notWaiting, settled, begun, weighing, zeroing, taring, run, resetState, performed}
 use Rattle.model.specs.States.{isPending}
-use Rattle.device.specs.Weighings.{placeZ, placeZI, placeDW, placeT, placeTI, placeTAC, stability}
+use Rattle.commands.specs.Weighings.{placeZ, placeZI, placeDW, placeT, placeTI, placeTAC, stability}
 use Rattle.line.specs.declared.judge.Verdict.{Verdict}
 use Rattle.line.specs.declared.judge.Verdict.the-variants.{Refused, Reset, Busy, Wrong, NoSample, Run, Preset, Show}
 use Rattle.line.specs.declared.receive.Line.{Line}
 use Rattle.line.specs.Judging.{isSI, isSIR}
 use Rattle.weight.specs.Ascii.{ascii, sameText}
+use Rattle.weight.proofs.Allowed.{neither-left, neither-right}
 use Rattle.history.proofs.WaitsAllowed.{by-choice}
 use Rattle.history.proofs.WaitsAnswer.{isSilent, weighed-sent, zeroed-sent, tared-sent}
-use Rattle.history.proofs.WaitsVerdict.{resets}
-
-neither-left : (a b : Bool) → (a || b) ≡ false → a ≡ false
-neither-left true b e = e
-neither-left false b e = refl
-
-neither-right : (a b : Bool) → (a || b) ≡ false → b ≡ false
-neither-right true b e = absurd (true≢false e)
-neither-right false b e = e
+use Rattle.history.proofs.Verdicts.{resets}
 
 -- S, T and Z
 abbrev pub isWaitName : List ℕ → Bool

@@ -11,15 +11,15 @@ use Rattle.answer.specs.declared.answer.Answer.the-variants as answers
 use Rattle.answer.specs.declared.answer.Status.the-variants.{I}
 use Rattle.answer.specs.Lines.{headText, lineOf}
 use Rattle.model.specs.declared.profile.Profile.{Profile}
-use Rattle.device.specs.declared.react.Reaction.{Reaction}
+use Rattle.commands.specs.declared.react.Reaction.{Reaction}
 use Rattle.model.specs.declared.state.Pending.{Pending}
 use Rattle.model.specs.declared.state.Pending.the-variants.{Nothing, Weigh, Zero, Tare}
 use Rattle.model.specs.declared.state.State.{State}
 use Rattle.model.specs.declared.weighing.Load.{Load}
 use Rattle.device.specs.Calls.{answerBytes}
-use Rattle.device.specs.Reactions.{withLine, withWeighing, withWaiting, reaction, measuredReaction, notWaiting, placeOfPending, settled, waited, sampleReaction}
+use Rattle.commands.specs.Reactions.{withLine, withWeighing, withWaiting, reaction, measuredReaction, notWaiting, placeOfPending, settled, waited, sampleReaction}
 use Rattle.model.specs.States.{isPending, stateAllowed}
-use Rattle.device.specs.Weighings.{headOf, weighed, withSample}
+use Rattle.commands.specs.Weighings.{headOf, weighed, withSample}
 use Rattle.line.specs.declared.judge.Verdict.{Verdict}
 use Rattle.line.specs.declared.receive.Line.{Line}
 use Rattle.line.specs.Unbounded.{Marked, endsUnbounded, finishedLine, judgementOf}
@@ -31,7 +31,7 @@ use Rattle.history.specs.Waits.{Waits, isEmpty, mayWait, isTimeout, afte
 use Rattle.history.proofs.WaitsAllowed.{by-choice}
 use Rattle.history.proofs.WaitsAnswer.{isSilent, silent-empty}
 use Rattle.history.proofs.WaitsPerformed.{Performed, answered, dropped, begins, settled-sent}
-use Rattle.history.proofs.WaitsVerdict.{resets, reset-test}
+use Rattle.history.proofs.Verdicts.{resets, reset-test}
 
 -- ---- the definitions, by whether a line ended
 
@@ -66,38 +66,16 @@ pub record Reacts (p : Profile) (w : Waits) (i : Input) (x : Reaction) : Type 0 
 
 module _ (p : Profile) (s : State) (w : Waits) (m : Marked) (x : Reaction) (old : Follows p s w)
     (allowed : stateAllowed p (x .state) ≡ true) (empty : Keeps (x .state .line) []) (ends : endsUnbounded (w .line) m ≡ true) where
-  -- it was answered, and the wait is as before
-  answered-reacts : isResetLine (finishedLine (w .line)) ≡ false → isSilent (x .answer) ≡ false → x .state .waiting ≡ s .waiting
-      → Reacts p w (byteIs m) x
-  answered-reacts noreset sent same =
+  -- it was answered
+  sent-reacts : isSilent (x .answer) ≡ false → cond (isResetLine (finishedLine (w .line))) false (w .waiting) ≡ isPending (x .state .waiting .pending)
+      → (isPending (x .state .waiting .pending) ≡ true → w .unstable ≡ x .state .waiting .unstable) → Reacts p w (byteIs m) x
+  sent-reacts sent waiting counted =
       let full : isEmpty (answerBytes p (x .answer)) ≡ false = silent-empty p (x .answer) ∙ sent in
       record {
         holds = rw (holds-ended p w m (answerBytes p (x .answer)) ends, full);
         next =
             rw (after-ended p w m (answerBytes p (x .answer)) ends)
-            (record {
-              allowed = allowed;
-              line = empty;
-              waiting = rw (noreset, full, same) (old .waiting);
-              counted = rw (full, same) (old .counted);
-            });
-      }
-
-  -- it was @
-  dropped-reacts : isResetLine (finishedLine (w .line)) ≡ true → isSilent (x .answer) ≡ false → x .state .waiting ≡ notWaiting
-      → Reacts p w (byteIs m) x
-  dropped-reacts reset sent none =
-      let full : isEmpty (answerBytes p (x .answer)) ≡ false = silent-empty p (x .answer) ∙ sent in
-      record {
-        holds = rw (holds-ended p w m (answerBytes p (x .answer)) ends, full);
-        next =
-            rw (after-ended p w m (answerBytes p (x .answer)) ends)
-            (record {
-              allowed = allowed;
-              line = empty;
-              waiting = rw (reset, none);
-              counted = rw none (λ e. absurd (false≢true e));
-            });
+            (record { allowed = allowed; line = empty; waiting = rw full waiting; counted = rw full counted });
       }
 
   -- it was S, T or Z, and waits from now on
@@ -124,6 +102,13 @@ module _ (p : Profile) (s : State) (w : Waits) (m : Marked) (x : Reaction) (old 
             });
       }
 
+  -- the verdict tells whether it was @
+  is-reset : (sampled : Bool) (v : Verdict)
+      → v ≡ judgementOf (p .capacity) (p .resolution .unit) (finishedLine (w .line)) (isPending (s .waiting .pending)) sampled
+      → isResetLine (finishedLine (w .line)) ≡ resets v
+  is-reset sampled v e =
+      sym (reset-test (p .capacity) (p .resolution .unit) (finishedLine (w .line)) (isPending (s .waiting .pending)) sampled) ∙ ap resets (sym e)
+
   -- by the verdict
   pub ended-reacts : (sampled : Bool) (v : Verdict)
       → v ≡ judgementOf (p .capacity) (p .resolution .unit) (finishedLine (w .line)) (isPending (s .waiting .pending)) sampled
@@ -132,24 +117,15 @@ module _ (p : Profile) (s : State) (w : Waits) (m : Marked) (x : Reaction) (old 
       → Performed t v x
       → Reacts p w (byteIs m) x
   ended-reacts sampled v e t same (answered noreset sent kept line) =
-      answered-reacts
-      (sym (reset-test (p .capacity) (p .resolution .unit) (finishedLine (w .line)) (isPending (s .waiting .pending)) sampled)
-      ∙ ap resets (sym e)
-      ∙ noreset)
-      sent
-      (kept ∙ same)
+      let other = is-reset sampled v e ∙ noreset in
+      let wait : x .state .waiting ≡ s .waiting = kept ∙ same in
+      sent-reacts sent (rw (other, wait) (old .waiting)) (rw wait (old .counted))
   ended-reacts sampled v e t same (dropped reset sent none line) =
-      dropped-reacts
-      (sym (reset-test (p .capacity) (p .resolution .unit) (finishedLine (w .line)) (isPending (s .waiting .pending)) sampled)
-      ∙ ap resets (sym e)
-      ∙ reset)
-      sent
-      none
+      sent-reacts sent (rw (is-reset sampled v e ∙ reset, none)) (rw none (λ f. absurd (false≢true f)))
   ended-reacts sampled v e t same (begins c pending runs named waits silent now line) =
       let was = run-line (p .capacity) (p .resolution .unit) (finishedLine (w .line)) (isPending (s .waiting .pending)) sampled (sym e ∙ runs) in
       begins-reacts pending
-      (sym (reset-test (p .capacity) (p .resolution .unit) (finishedLine (w .line)) (isPending (s .waiting .pending)) sampled)
-      ∙ ap resets (sym e ∙ runs))
+      (is-reset sampled v e ∙ ap resets runs)
       silent
       (was .free)
       (rw (was .line .good, was .line .bytes) named)

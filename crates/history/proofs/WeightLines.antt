@@ -1,10 +1,9 @@
 -- A weight answer whole: the ten characters of its line are read back as the number that was printed.
 -- Assumes nothing.
 use Prim.Native.Nat.{ℕ}
-use mathlib.Core.Path.{_≡_, refl}
+use mathlib.Core.Path.{_≡_}
 use mathlib.Core.Bool.{Bool, true, false, cond, _&&_}
-use mathlib.Core.List.{List, [], _∷_, _++_, append-assoc}
-use borrow.Author.Tests.{eq-eqb}
+use mathlib.Core.List.{List, _++_, append-assoc}
 use lib.IntN.{ℤ}
 use lib.ListN.{length, take, drop}
 use lib.Seq.{take-at, drop-at}
@@ -12,7 +11,7 @@ use Rattle.answer.specs.declared.answer.Answer.the-variants.{Weight}
 use Rattle.answer.specs.declared.answer.Status.the-variants.{A, S, D}
 use Rattle.answer.specs.Lines.{lineEnd, headText, weightText, lineOf}
 use Rattle.model.specs.declared.profile.Profile.{Profile}
-use Rattle.device.specs.Weighings.{headOf, numberOf, placeS, placeT, placeTA, placeTI}
+use Rattle.commands.specs.Weighings.{headOf, numberOf, placeS, placeT, placeTA, placeTI}
 use Rattle.device.specs.Calls.{answerBytes}
 use Rattle.weight.specs.declared.reading.FieldRead.the-variants.{Number as ReadNumber}
 use Rattle.weight.specs.Ascii.{ascii, sameText}
@@ -22,14 +21,10 @@ use Rattle.weight.specs.Reading.{readField}
 use Rattle.weight.specs.Rounding.{allowedResolution, inRange, placesOf}
 use Rattle.weight.specs.Printing.{printable, printedNumber}
 use Rattle.weight.proofs.Allowed.{both-right}
+use Rattle.weight.proofs.Named.{same-self}
 use Rattle.weight.proofs.ReadBack.{read-back}
 use Rattle.weight.proofs.Width.{field-length}
 use Rattle.history.specs.Tally.{tenOf, isWhole}
-
--- a text is the same as itself
-pub same-self : (t : List ℕ) → sameText t t ≡ true
-same-self [] = refl
-same-self (c ∷ t) = rw (eq-eqb c c refl) (same-self t)
 
 -- ---- four pieces, of which the first has ten characters
 
@@ -46,11 +41,11 @@ module _ (f g u e : List ℕ) (long : length f ≡ 10) where
 -- ---- the weight after the head
 
 module _ (p : Profile) (w : ℤ) (fits : printable (p .resolution) w ≡ true) where
-  places-printed : printedNumber (p .resolution) w .places .0 ≡ placesOf (p .resolution) w
+  pub places-printed : printedNumber (p .resolution) w .places .0 ≡ placesOf (p .resolution) w
   unfolding printedNumber
   places-printed = rw fits
 
-  field-fits : fitsField (p .resolution .decimals) (placesOf (p .resolution) w) ≡ true
+  pub field-fits : fitsField (p .resolution .decimals) (placesOf (p .resolution) w) ≡ true
   unfolding printable
   field-fits = both-right (allowedResolution (p .resolution) && inRange w) _ fits
 

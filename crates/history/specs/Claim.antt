@@ -9,9 +9,8 @@ use Rattle.model.specs.declared.profile.Profile.{Profile}
 use Rattle.model.specs.declared.state.State.{State}
 use Rattle.model.specs.declared.weighing.Load.{Load}
 use Rattle.device.specs.declared.call.Called.{Called}
-use Rattle.device.specs.declared.call.Refusal.the-variants as refusals
+use Rattle.model.specs.declared.refusal.Refusal.the-variants as refusals
 use Rattle.device.specs.Calls.{numberOfRefusal, PowerOnCalled, ByteCalled, SampleCalled}
-use Rattle.line.specs.Unbounded.{Marked}
 use Rattle.history.specs.Tally.{Event, byteIs, sampleIs, startTally, accepts}
 
 -- what the tally is fed of a byte call and of a sample call: the answer is the first n bytes of the buffer
@@ -32,12 +31,16 @@ pub data Calls (p : Profile) : State → List Event → State → Type 0 where
   sampleCall : {s : State} {z : Load} {stable : Bool} {room : List ℕ} {r : Called} {buffer : List ℕ} {es : List Event} {s′ : State}
       → SampleCalled p s z stable room r buffer → Calls p (r .state) es s′ → Calls p s (sampleEvent z stable r buffer ∷ es) s′
 
--- Demand 3: over every list of calls from the state that a power-on not refused returned, the tally accepts
-abbrev pub Demand3 : Type 0
-Demand3 =
+-- What holds, of the profile and the events, over every list of calls from the state that a power-on not refused returned
+abbrev pub OverCalls : (Profile → List Event → Type 0) → Type 0
+OverCalls Holds =
     (p : Profile) (earlier : State) (room : List ℕ) (r : Called) (buffer : List ℕ)
     → PowerOnCalled p earlier room r buffer
     → r .refusal ≡ refusals.None
     → (es : List Event) (s : State)
     → Calls p (r .state) es s
-    → accepts p startTally es ≡ true
+    → Holds p es
+
+-- Demand 3: the tally accepts
+abbrev pub Demand3 : Type 0
+Demand3 = OverCalls (λ p es. accepts p startTally es ≡ true)

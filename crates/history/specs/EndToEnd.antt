@@ -3,18 +3,14 @@
 -- Assumes nothing.
 use Prim.Native.Nat.{ℕ, _*_}
 use mathlib.Core.Path.{_≡_}
-use mathlib.Core.Bool.{Bool, true, false, cond, not, _&&_, _||_}
+use mathlib.Core.Bool.{Bool, true, false, not, _&&_, _||_}
 use mathlib.Core.List.{List, [], _∷_, reverse}
 use lib.Dec.{leb, eqb}
 use lib.IntN.{natAbs, _-ℤ_}
 use Rattle.answer.specs.declared.answer.Answer.{Answer}
 use Rattle.answer.specs.declared.answer.Answer.the-variants.{Nothing, Plain, Weight, Refused, Text, Listed, CommandList, Versions}
-use Rattle.device.specs.declared.call.Called.{Called}
-use Rattle.device.specs.declared.call.Refusal.the-variants as refusals
 use Rattle.model.specs.declared.profile.Profile.{Profile}
-use Rattle.model.specs.declared.state.State.{State}
-use Rattle.device.specs.Calls.{PowerOnCalled}
-use Rattle.history.specs.Claim.{Calls}
+use Rattle.history.specs.Claim.{OverCalls}
 use Rattle.history.specs.Tally.{Event, Tally, startTally, numberFemtograms, exactWeight, allowance, tallied, afterEvent}
 use Rattle.host.specs.declared.reader.Read.{Read}
 use Rattle.host.specs.declared.reader.Read.the-variants as reads
@@ -70,10 +66,4 @@ hostAccepts p t (e ∷ es) =
     && hostAccepts p (afterEvent p t e) es
 
 abbrev pub EndToEnd : Type 0
-EndToEnd =
-    (p : Profile) (earlier : State) (room : List ℕ) (r : Called) (buffer : List ℕ)
-    → PowerOnCalled p earlier room r buffer
-    → r .refusal ≡ refusals.None
-    → (es : List Event) (s : State)
-    → Calls p (r .state) es s
-    → hostAccepts p startTally es ≡ true
+EndToEnd = OverCalls (λ p es. hostAccepts p startTally es ≡ true)

@@ -1,19 +1,15 @@
 -- Beside demand 3, over the same lists of calls and from calls and answers alone: every ended line has its answer or waits, a wait
 -- ends at a stable sample or at the W-th unstable one of the history, and no call is refused by 1 or 2.
 -- Assumes nothing.
-use Prim.Native.Nat.{ℕ, suc, _+_}
+use Prim.Native.Nat.{ℕ, suc}
 use mathlib.Core.Path.{_≡_}
 use mathlib.Core.Bool.{Bool, true, false, cond, not, _&&_, _||_}
 use mathlib.Core.List.{List, [], _∷_, map}
 use lib.Dec.{eqb}
-use Rattle.device.specs.declared.call.Called.{Called}
-use Rattle.device.specs.declared.call.Refusal.the-variants as refusals
 use Rattle.model.specs.declared.profile.Profile.{Profile}
-use Rattle.model.specs.declared.state.State.{State}
-use Rattle.device.specs.Calls.{PowerOnCalled}
-use Rattle.line.specs.Unbounded.{Marked, endsUnbounded, afterMarked, finishedLine, byteIn, anyFaulty}
+use Rattle.line.specs.Unbounded.{Marked, endsUnbounded, finishedLine, byteIn, anyFaulty}
 use Rattle.weight.specs.Ascii.{ascii, sameText}
-use Rattle.history.specs.Claim.{Calls}
+use Rattle.history.specs.Claim.{OverCalls}
 use Rattle.history.specs.Tally.{Event, Input, byteIs, sampleIs, isResetLine}
 
 -- the line so far, whether a command waits, and the unstable samples that came since it waits
@@ -92,10 +88,4 @@ waitsHold p w (e ∷ es) =
     (isEmpty (e .answer) && waitsHold p w es)
 
 abbrev pub WaitsEnd : Type 0
-WaitsEnd =
-    (p : Profile) (earlier : State) (room : List ℕ) (r : Called) (buffer : List ℕ)
-    → PowerOnCalled p earlier room r buffer
-    → r .refusal ≡ refusals.None
-    → (es : List Event) (s : State)
-    → Calls p (r .state) es s
-    → waitsHold p startWaits es ≡ true
+WaitsEnd = OverCalls (λ p es. waitsHold p startWaits es ≡ true)

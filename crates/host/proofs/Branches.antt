@@ -43,6 +43,9 @@ module _ (l : List ℕ) (n : ℕ) where
   pub front-count : n < length l → n ≡ length (take n l)
   front-count h = sym (length-take-le n l (omega arith))
 
+  pub plain-count : length l ≡ n + 4 → n ≡ length (take n l)
+  plain-count h = front-count (omega arith)
+
   pub front-place : {c : ℕ} → n ≡ length (beforeSpace l) → c ≡ placeOf (take n l) → c ≡ placeOf (beforeSpace l)
   front-place name e = e ∙ ap placeOf (ap (λ (k : ℕ). take k l) name ∙ front l .word)
 

@@ -7,7 +7,7 @@ use mathlib.Core.List.{List, [], _∷_, _++_}
 use Prim.Native.Nat.{ℕ, _+_, _-_, _≤_}
 use native.Mathlib.Omega.{arith}
 use borrow.Author.Tests.{leb-true, eqb-true}
-use lib.Dec.{leb, ltb, lit≤}
+use lib.Dec.{leb, ltb}
 use lib.ListN.{length, length-append}
 use lib.Seq.{drop-append-add, take-append-seam}
 use lib.Signed.{nonNeg}
@@ -25,9 +25,7 @@ use Rattle.host.proofs.Places.{identity-width}
 use Rattle.host.proofs.Shapes.{quotedEnd, text-line}
 use Rattle.line.specs.Judging.{isPrintable}
 use Rattle.weight.specs.Field.{fitsField}
-use Rattle.weight.specs.declared.units.WeightUnit.{WeightUnit}
-use Rattle.weight.specs.declared.units.WeightUnit.the-variants.{G, Mg, Ct, Oz, Ozt, Gn, Dwt}
-use Rattle.weight.specs.Units.{unitText}
+use Rattle.weight.proofs.Named.{unit-short}
 use Rattle.weight.proofs.Allowed.{both-left, both-right, either-holds}
 
 -- ---- what a form's test says
@@ -58,15 +56,6 @@ module _ (c : ℕ) (t : List ℕ) (form : canForm (Text c) t ≡ true) where
       (both-right (isIdentity c) (leb (length t) 20 || (leb c 3 && leb (length t) 40)) text-front))
 
 -- ---- no line is over 49 bytes
-
-unit-short : (u : WeightUnit) → length (unitText u) ≤ 3
-unit-short G = lit≤ tt
-unit-short Mg = lit≤ tt
-unit-short Ct = lit≤ tt
-unit-short Oz = lit≤ tt
-unit-short Ozt = lit≤ tt
-unit-short Gn = lit≤ tt
-unit-short Dwt = lit≤ tt
 
 pub form-length : (a : Answer) (t : List ℕ) → canForm a t ≡ true → length (lineOf a t) ≤ 49
 form-length Nothing t e = let z : _≡_ {A = ℕ} 0 1 = cc in absurd (omega arith)

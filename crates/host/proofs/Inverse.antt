@@ -2,10 +2,9 @@
 -- Assumes nothing.
 use mathlib.Core.Path.{_≡_, refl, ap}
 use mathlib.Core.Bool.{Bool, true, false, cond}
-use mathlib.Core.List.{List, [], _∷_}
+use mathlib.Core.List.{List}
 use Prim.Native.Nat.{ℕ}
 use native.Mathlib.Omega.{arith}
-use borrow.Author.Tests.{eq-eqb}
 use Rattle.answer.specs.Lines.{lineOf}
 use Rattle.answer.specs.declared.answer.Answer.{Answer}
 use Rattle.host.specs.declared.reader.Read.the-variants.{Line, Refused}
@@ -16,7 +15,7 @@ use Rattle.host.proofs.Forming.{text-back}
 use Rattle.host.proofs.Guessing.{guessed-back}
 use Rattle.weight.specs.Ascii.{sameText}
 use Rattle.weight.proofs.Allowed.{both-left, both-right}
-use Rattle.weight.proofs.Named.{same-is}
+use Rattle.weight.proofs.Named.{same-is, same-self}
 
 -- ---- writing what was read
 
@@ -41,10 +40,6 @@ unfolding readLine
 written-read l a p e = read-by (confirms (guessed l) (textAt (textPlace (guessed l) l) l) l) l a (guessed l) p (textPlace (guessed l) l) refl e
 
 -- ---- reading what was written
-
-same-self : (t : List ℕ) → sameText t t ≡ true
-same-self [] = refl
-same-self (c ∷ t) = rw (eq-eqb c c refl) (same-self t)
 
 -- reading what was written gives that answer again, and the text at its place is the text written
 pub read-written : (a : Answer) (t : List ℕ) → canForm a t ≡ true

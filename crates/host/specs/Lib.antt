@@ -1,3 +1,4 @@
 pub mod Forms
+pub mod Frames
 pub mod Reads
 pub mod Writes

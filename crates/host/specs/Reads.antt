@@ -2,15 +2,14 @@
 -- refused. What is right is `canForm` and `lineOf` alone; the laws say that no line of theirs is missed.
 -- Assumes nothing.
 use Prim.Native.Nat.{ℕ, _+_, _-_}
-use mathlib.Core.Bool.{Bool, true, false, cond, _&&_}
-use mathlib.Core.List.{List, []}
-use lib.Dec.{ltb, eqb}
+use mathlib.Core.Bool.{Bool, cond, _&&_}
+use mathlib.Core.List.{List}
+use lib.Dec.{eqb}
 use lib.ListN.{length, getD, take, drop}
 use Rattle.answer.specs.Commands.{placeOf}
 use Rattle.answer.specs.Lines.{lineOf}
 use Rattle.answer.specs.declared.answer.Answer.{Answer}
 use Rattle.answer.specs.declared.answer.Answer.the-variants.{Nothing, Plain, Weight, Refused, Text, Listed, CommandList, Versions}
-use Rattle.answer.specs.declared.answer.Error.{Error}
 use Rattle.answer.specs.declared.answer.Error.the-variants.{Syntax, Transmission, Logical}
 use Rattle.answer.specs.declared.answer.Head.{Head}
 use Rattle.answer.specs.declared.answer.Status.{Status}

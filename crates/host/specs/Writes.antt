@@ -1,7 +1,7 @@
 -- Writing the line of an answer: 4 where it cannot be formed, 3 where the buffer is shorter than the line.
 -- Assumes nothing.
 use Prim.Native.Nat.{ℕ}
-use mathlib.Core.Bool.{Bool, true, false, cond}
+use mathlib.Core.Bool.{cond}
 use mathlib.Core.List.{List}
 use lib.ListN.{length}
 use Rattle.answer.specs.Lines.{lineOf, fitsRoom, laidIn}

@@ -3,7 +3,6 @@ ghost use mathlib.Core.Path.{_≡_};
 ghost use mathlib.Core.Bool.{_||_};
 ghost use lib.Signed.{nonNeg};
 ghost use Rattle.host.specs.Forms.{isS, isZ, isZI, isT, isTI, plainForm, weightForm, numberForm, textForm, canForm};
-use crate::scan::is_printable;
 use answer::Answer;
 use answer::D;
 use answer::DW;
@@ -23,8 +22,9 @@ use answer::TAC;
 use answer::TI;
 use answer::Z;
 use answer::ZI;
+use line::is_printable;
 use weight::LastPlaces;
-use weight::field_of;
+use weight::fits;
 
 const SHORT_TEXT: usize = 20;
 
@@ -38,7 +38,7 @@ fn has_limits(command: u8) -> bool
 }
 
 // An identification and a status alone.
-fn plain_form(command: u8, status: Status) -> bool
+pub fn plain_form(command: u8, status: Status) -> bool
     ensures { λ r. ⌜ r ≡ plainForm command status ⌝ }
 {
     match status {
@@ -80,8 +80,7 @@ fn number_form(command: u8, number: Number) -> bool
     ensures { λ r. ⌜ r ≡ numberForm command number ⌝ }
 {
     let places = number.places;
-    let field = field_of(number.decimals, places);
-    field.fits & ((command == S) | not_below_zero(places))
+    fits(number.decimals, places) & ((command == S) | not_below_zero(places))
 }
 
 // The texts of I2 and I3 may be longer than those of I4 and I5.

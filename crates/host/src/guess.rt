@@ -7,7 +7,6 @@ ghost use Rattle.host.specs.Reads.{errorGuess, statusGuess, weightGuess,
 ghost use Rattle.line.specs.Judging.{beforeSpace};
 use crate::scan::byte_at;
 use crate::scan::left;
-use crate::scan::name_length;
 use crate::scan::part;
 use answer::Answer;
 use answer::Error;
@@ -53,7 +52,7 @@ fn status_guess(byte: u8) -> Status
 }
 
 // `name` is the length of the name, and `command` its place.
-fn head_guess(line: &[u8], name: usize, command: u8) -> Head
+pub fn head_guess(line: &[u8], name: usize, command: u8) -> Head
     requires { ⌜ name ≤ 49 ⌝ }
     requires { ⌜ name ≡ length (beforeSpace (now line)) ⌝ }
     requires { ⌜ command ≡ placeOf (beforeSpace (now line)) ⌝ }
@@ -137,11 +136,12 @@ fn named_guess(line: &[u8], name: usize, command: u8) -> Answer
     )
 }
 
-pub fn guess_answer(line: &[u8]) -> Answer
-    requires { ⌜ length (now line) ≤ 49 ⌝ }
+// `name` is how many bytes stand before the first space.
+pub fn guess_answer(line: &[u8], name: usize) -> Answer
+    requires { ⌜ name ≤ 49 ⌝ }
+    requires { ⌜ name ≡ length (beforeSpace (now line)) ⌝ }
     ensures { λ r. ⌜ r ≡ guessed (now (line .entry)) ⌝ }
 {
-    let name = name_length(line);
     if name < line.len() {
         let command = find_command(&line[..name]);
         return named_guess(line, name, command);

@@ -1,6 +1,7 @@
 // The host's reader and writer of answer lines.
 // The programs above use the promises of the functions named here and the laws of proofs/.
 mod forms;
+mod frame;
 mod guess;
 mod reader;
 mod scan;

@@ -1,13 +1,20 @@
-// Reads one answer line: the answer that it could be is written again and compared.
+// Reads one answer line: the answer that it could be is taken if it can be formed and the rest of the line fits it.
 ghost use mathlib.Core.Path.{_≡_};
-ghost use Rattle.host.specs.Reads.{textPlace, confirms, readLine};
+ghost use Prim.Native.Nat.{_+_, _≤_};
+ghost use lib.ListN.{length};
+ghost use Rattle.host.specs.Reads.{textPlace, readLine};
+ghost use Rattle.line.specs.Judging.{beforeSpace};
 use crate::forms::can_form;
+use crate::forms::plain_form;
+use crate::frame::is_ended;
+use crate::frame::is_framed;
 use crate::guess::guess_answer;
+use crate::guess::head_guess;
 use crate::scan::left;
+use crate::scan::name_length;
 use crate::scan::part;
 use answer::Answer;
-use answer::emit_answer;
-use weight::same_text;
+use answer::find_command;
 
 // No line that can be formed is longer: I2 with a text of 40 bytes.
 const LONGEST: usize = 49;
@@ -49,17 +56,20 @@ fn text_place(answer: Answer, line: &[u8]) -> ReadText
     }
 }
 
-// Whether the answer can be formed and its line is this one.
-fn is_confirmed(answer: Answer, text: &[u8], line: &[u8]) -> bool
-    ensures { λ r. ⌜ r ≡ confirms answer (now (text .entry)) (now (line .entry)) ⌝ }
+// An identification and a status alone: the most frequent line is read without the tests of the others.
+fn read_plain(line: &[u8], name: usize) -> Read
+    requires { ⌜ length (now line) ≤ 49 ⌝ }
+    requires { ⌜ name ≡ length (beforeSpace (now line)) ⌝ }
+    requires { ⌜ length (now line) ≡ name + 4 ⌝ }
+    ensures { λ r. ⌜ r ≡ readLine (now (line .entry)) ⌝ }
 {
-    if can_form(answer, text) {
-        let mut again = [0u8; 64];
-        let written = emit_answer(answer, text, &mut again);
-        let count = written.count;
-        return same_text(&again[..count], line);
+    let command = find_command(&line[..name]);
+    let head = head_guess(line, name, command);
+    let status = head.status;
+    if is_ended(line) & plain_form(head.identification, status) {
+        return Read::Line(Answer::Plain(head), no_text());
     }
-    false
+    Read::Refused
 }
 
 pub fn read_line(line: &[u8]) -> Read
@@ -68,12 +78,18 @@ pub fn read_line(line: &[u8]) -> Read
     if LONGEST < line.len() {
         return Read::Refused;
     }
-    let answer = guess_answer(line);
+    let name = name_length(line);
+    if line.len() == name + 4 {
+        return read_plain(line, name);
+    }
+    let answer = guess_answer(line, name);
     let place = text_place(answer, line);
-    let start = place.start;
-    let len = place.len;
-    if is_confirmed(answer, part(line, start, len), line) {
-        return Read::Line(answer, place);
+    if is_framed(answer, line, name) {
+        let start = place.start;
+        let len = place.len;
+        if can_form(answer, part(line, start, len)) {
+            return Read::Line(answer, place);
+        }
     }
     Read::Refused
 }

@@ -1,42 +1,16 @@
 // Bytes and parts of a line. Past its end there are none.
 ghost use mathlib.Core.Path.{_≡_};
-ghost use Prim.Native.Nat.{_-_};
+ghost use Prim.Native.Nat.{_-_, _≤_};
 ghost use lib.ListN.{length, getD, take, drop};
-ghost use Rattle.line.specs.Judging.{beforeSpace, isPrintable};
-
-const SPACE: u8 = 32;
-
-const QUOTE: u8 = 34;
+ghost use Rattle.line.specs.Judging.{beforeSpace};
+use weight::first_at;
 
 // How many bytes stand before the first space; all of them where there is none.
 pub fn name_length(line: &[u8]) -> usize
     ensures { λ r. ⌜ r ≡ length (beforeSpace (now (line .entry))) ⌝ }
+    ensures { λ r. ⌜ r ≤ length (now (line .entry)) ⌝ }
 {
-    let mut i = 0;
-    while i < line.len() {
-        if line[i] == SPACE {
-            return i;
-        }
-        i += 1;
-    }
-    i
-}
-
-// Bytes 32 to 255 without 34.
-pub fn is_printable(text: &[u8]) -> bool
-    ensures { λ r. ⌜ r ≡ isPrintable (now (text .entry)) ⌝ }
-{
-    let mut i = 0;
-    while i < text.len() {
-        if text[i] < SPACE {
-            return false;
-        }
-        if text[i] == QUOTE {
-            return false;
-        }
-        i += 1;
-    }
-    true
+    first_at(line, b' ')
 }
 
 // A byte; 0 past the end.

@@ -58,13 +58,6 @@ pub record Keeps (l : Line) (u : List Marked) : Type 0 where
   pub returned : l .returned ≡ endsInReturn u
   pub held : Holds l (reverse (withoutReturn u))
 
--- the cells are never more than 64, and hold the whole line where it is not over
-pub holds-few : {l : Line} {f : List Marked} → Holds l f → l .len ≤ 64
-holds-few h = omega (arith, h .len)
-
-pub holds-whole : {l : Line} {f : List Marked} → Holds l f → length f ≤ 64 → contentOf l ≡ map byteIn f
-holds-whole {l} {f} h few = h .content ∙ take-all 64 (map byteIn f) (omega (arith, length-map f byteIn))
-
 -- ---- nothing received
 
 pub keeps-cleared : (l : Line) → length (l .bytes) ≡ 64 → Keeps (clearedLine l) []

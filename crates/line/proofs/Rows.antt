@@ -16,14 +16,16 @@ use Rattle.line.specs.declared.judge.Verdict.{Verdict}
 use Rattle.line.specs.declared.judge.Verdict.the-variants.{Refused, Reset, Busy, Wrong, NoSample, Run, Preset, Show}
 use Rattle.line.specs.Receiving.{contentOf}
 use Rattle.line.specs.Judging.{afterSpace, hasSpace, hasControl, commandIn, takesParameters, needsSample, isQuoted, typedIn, amountIn, isPreset, isWrong, ownRule, judgement}
-use Rattle.line.specs.Parts.{SpaceAt, showRule, presetRule, lastRows, textRows}
-use Rattle.line.proofs.Parameters.{rest}
+use Rattle.line.specs.Parts.{showRule, presetRule, lastRows, textRows}
 use Rattle.weight.specs.declared.units.WeightUnit.{WeightUnit}
+use Rattle.weight.specs.Ascii.{space}
+use Rattle.weight.specs.Searching.{FirstAt}
+use Rattle.weight.proofs.Searching.{rest-is}
 
 -- ---- rows 6 to 8
 
 -- the name's cells
-pub name-cells : (t : List ℕ) (i : ℕ) → SpaceAt t i → i ≡ length (take i t)
+pub name-cells : (t : List ℕ) (i : ℕ) → FirstAt space t i → i ≡ length (take i t)
 name-cells t i at = sym (length-take-le i t (at .in-text))
 
 -- the same choice by the opposite test
@@ -31,7 +33,7 @@ opposite : (q : Bool) (a b : Verdict) → cond q a b ≡ cond (not q) b a
 opposite true a b = refl
 opposite false a b = refl
 
-module _ (capacity : ℕ) (u : WeightUnit) (c : ℕ) (t : List ℕ) (sampled : Bool) (i : ℕ) (at : SpaceAt t i) where
+module _ (capacity : ℕ) (u : WeightUnit) (c : ℕ) (t : List ℕ) (sampled : Bool) (i : ℕ) (at : FirstAt space t i) where
   has : i < length t → hasSpace t ≡ true
   has h = sym (at .has) ∙ lt-ltb i (length t) h
 
@@ -39,7 +41,7 @@ module _ (capacity : ℕ) (u : WeightUnit) (c : ℕ) (t : List ℕ) (sampled : B
   has-not h = sym (at .has) ∙ le-ltb i (length t) h
 
   after : take (length t - (i + 1)) (drop (i + 1) t) ≡ afterSpace t
-  after = rest t (i + 1) ∙ at .after
+  after = rest-is (i + 1) t ∙ at .after
 
   pub show-parameter : {r : Verdict} → c ≡ 12 → i < length t → r ≡ showRule (take (length t - (i + 1)) (drop (i + 1) t))
       → r ≡ lastRows capacity u c t sampled
@@ -75,7 +77,7 @@ module _ (capacity : ℕ) (u : WeightUnit) (faulty over : Bool) (t : List ℕ) (
   unfolding textRows
   row-1 e = rw e
 
-  module _ (good : faulty ≡ false) (i : ℕ) (at : SpaceAt t i) {c : ℕ} (found : c ≡ placeOf (take i t)) where
+  module _ (good : faulty ≡ false) (i : ℕ) (at : FirstAt space t i) {c : ℕ} (found : c ≡ placeOf (take i t)) where
     named : commandIn t ≡ c
     unfolding commandIn
     named = sym (found ∙ ap placeOf (at .before))

@@ -3,11 +3,12 @@
 use mathlib.Core.Path.{_≡_, refl, sym, ap, _∙_}
 use mathlib.Core.Bool.{Bool, true, false, cond, not, _&&_, _||_, and-eq-true-iff}
 use mathlib.Core.List.{List, [], _∷_, _++_, map}
-use Prim.Native.Nat.{ℕ, _-_, _≤_, _<_}
+use Prim.Native.Nat.{ℕ, zero, suc, _-_, _≤_, _<_}
 use native.Mathlib.Omega.{arith}
-use lib.Dec.{leb, ltb, eqb}
+use lib.Dec.{leb, ltb}
 use lib.IntN.{natAbs}
-use lib.ListN.{length, getD, take, drop, length-map, length-take, length-drop}
+use lib.ListN.{length, take, drop, length-map, length-take, length-drop}
+use lib.Seq.{take-take}
 use borrow.Author.Tests.{eqb-true, eqb-false, leb-true, leb-false, ltb-false, not-true, not-false}
 use Rattle.answer.specs.Commands.{names, nameOf, placeOf, placeIn}
 use Rattle.answer.proofs.Names.{found-name}
@@ -40,7 +41,8 @@ use Rattle.line.specs.Judging.{
 }
 use Rattle.line.specs.Receiving.{contentOf}
 use Rattle.line.specs.Unbounded.{Marked, byteIn, anyFaulty, judgementOf}
-use Rattle.line.proofs.Kept.{Holds, holds-whole, holds-judged}
+use Rattle.line.proofs.Kept.{Holds}
+use Rattle.line.proofs.Parameters.{Between, shown-between}
 use Rattle.weight.specs.declared.units.WeightUnit.{WeightUnit}
 use Rattle.weight.specs.declared.rounding.Micrograms.{Micrograms}
 use Rattle.weight.specs.declared.typed.Typed.{Typed}
@@ -48,7 +50,9 @@ use Rattle.weight.specs.declared.typed.Typed.the-variants.{Amount, TooLarge, No
 use Rattle.weight.specs.Ascii.{ascii, space, sameText}
 use Rattle.weight.specs.Units.{unitText}
 use Rattle.weight.specs.Typed.{readTyped}
+use Rattle.weight.proofs.Allowed.{both-right, neither-left, neither-right}
 use Rattle.weight.proofs.Named.{same-is}
+use Rattle.weight.proofs.Searching.{first-between, none-between}
 
 -- ---- which row was reached
 
@@ -181,30 +185,6 @@ rows-5-to-7 false false false false false false false c own v o k e =
 
 -- ---- the line's parts
 
-neither : (a b : Bool) → (a || b) ≡ false → (a ≡ false) × (b ≡ false)
-neither true b e = never (cc)
-neither false b e = (refl, e)
-
-split-by : (here : Bool) (c : ℕ) (t : List ℕ) → eqb c space ≡ here → (hasSpace t ≡ true → t ≡ beforeSpace t ++ (space ∷ afterSpace t))
-    → (here || hasSpace t) ≡ true → c ∷ t ≡ cond here [] (c ∷ beforeSpace t) ++ (space ∷ cond here t (afterSpace t))
-split-by true c t e later h = ap (λ (x : ℕ). x ∷ t) (eqb-true c space e)
-split-by false c t e later h = ap (λ (s : List ℕ). c ∷ s) (later h)
-
--- a text with a space is what stands before it, the space and what stands after it
-split : (t : List ℕ) → hasSpace t ≡ true → t ≡ beforeSpace t ++ (space ∷ afterSpace t)
-split [] h = never (cc)
-split (c ∷ t) h = split-by (eqb c space) c t refl (split t) h
-
--- a text without one stands before it whole
-whole-by : (here : Bool) (c : ℕ) (t : List ℕ) → (hasSpace t ≡ false → beforeSpace t ≡ t)
-    → (here || hasSpace t) ≡ false → cond here [] (c ∷ beforeSpace t) ≡ c ∷ t
-whole-by true c t later h = never (cc)
-whole-by false c t later h = ap (λ (s : List ℕ). c ∷ s) (later h)
-
-whole : (t : List ℕ) → hasSpace t ≡ false → beforeSpace t ≡ t
-whole [] h = refl
-whole (c ∷ t) h = whole-by (eqb c space) c t (whole t) h
-
 -- the bytes before the first space are the command's name
 name-before : (t : List ℕ) → commandIn t < 18 → beforeSpace t ≡ nameOf (commandIn t)
 unfolding commandIn
@@ -212,11 +192,11 @@ name-before t h = sym (found-name (beforeSpace t) h)
 
 -- a name alone
 name-alone : (t : List ℕ) → commandIn t < 18 → hasSpace t ≡ false → t ≡ nameOf (commandIn t)
-name-alone t h e = sym (whole t e) ∙ name-before t h
+name-alone t h e = sym (none-between space t e .0) ∙ name-before t h
 
 -- a name and a parameter
 name-then : (t : List ℕ) → commandIn t < 18 → hasSpace t ≡ true → t ≡ nameOf (commandIn t) ++ (space ∷ afterSpace t)
-name-then t h e = split t e ∙ ap (λ (n : List ℕ). n ++ (space ∷ afterSpace t)) (name-before t h)
+name-then t h e = first-between space t e ∙ ap (λ (n : List ℕ). n ++ (space ∷ afterSpace t)) (name-before t h)
 
 -- ---- what callers use
 
@@ -264,6 +244,12 @@ pub record ShowLine (f : List Marked) (waiting : Bool) (n : ℕ) : Type 0 where
   pub short : n ≤ 20
   pub free : waiting ≡ false
 
+-- n bytes of a line's cells that D takes
+pub record Shown (l : Line) (n : ℕ) : Type 0 where
+  pub short : n ≤ 20
+  pub long : length (take n (drop 3 (l .bytes))) ≡ n
+  pub printable : isPrintable (take n (drop 3 (l .bytes))) ≡ true
+
 -- a good line of at most 64 bytes that begins with a name
 record Begins (f : List Marked) : Type 0 where
   good : anyFaulty f ≡ false
@@ -275,12 +261,13 @@ begins : (f : List Marked)
     → Known (anyFaulty f) (ltb 64 (length f) || hasControl (map byteIn f) || leb (length names) (commandIn (map byteIn f)))
     (hasSpace (map byteIn f) && not (takesParameters (commandIn (map byteIn f)))) → Begins f
 begins f k =
-    let outer = neither (ltb 64 (length f) || hasControl (map byteIn f)) (leb (length names) (commandIn (map byteIn f))) (k .named) in
-    let inner = neither (ltb 64 (length f)) (hasControl (map byteIn f)) (outer .0) in
+    let few = neither-left (ltb 64 (length f) || hasControl (map byteIn f)) (leb (length names) (commandIn (map byteIn f))) (k .named) in
     record {
       good = k .good;
-      in-cells = ltb-false 64 (length f) (inner .0);
-      a-name = leb-false 18 (commandIn (map byteIn f)) (outer .1);
+      in-cells = ltb-false 64 (length f) (neither-left (ltb 64 (length f)) (hasControl (map byteIn f)) few);
+      a-name =
+          leb-false 18 (commandIn (map byteIn f))
+          (neither-right (ltb 64 (length f) || hasControl (map byteIn f)) (leb (length names) (commandIn (map byteIn f))) (k .named));
       alone = k .alone;
     }
 
@@ -317,19 +304,22 @@ wrong-takes true ta x y e = refl
 wrong-takes false true x y e = refl
 wrong-takes false false x y e = never (cc)
 
--- a text between quotes
-record Between (p : List ℕ) : Type 0 where
-  shown : isShown (betweenQuotes p) ≡ true
-  count : length (betweenQuotes p) ≡ length p - 2
-  short : length p - 2 ≤ 20
+-- D with right parameters: the space after it, and the text between quotes
+record Showing (c : ℕ) (t : List ℕ) (n : ℕ) : Type 0 where
+  is : c ≡ 12
+  spaced : hasSpace t ≡ true
+  quotes : Between (afterSpace t)
+  count : length (afterSpace t) - 2 ≡ n
 
-shown-between : (p : List ℕ) → isQuoted p ≡ true → Between p
-unfolding isQuoted
-shown-between p e =
-    let parts = and-eq-true-iff (leb 2 (length p) && (eqb (getD p 0 0) 34 && eqb (getD p (length p - 1) 0) 34)) (isShown (betweenQuotes p)) .0 e in
-    let count : length (betweenQuotes p) ≡ length p - 2 = omega (arith, length-take (length p - 2) (drop 1 p), length-drop 1 p) in
-    let few : length (betweenQuotes p) ≤ 20 = leb-true (length (betweenQuotes p)) 20 (and-eq-true-iff (leb (length (betweenQuotes p)) 20) (isPrintable (betweenQuotes p)) .0 (parts .1) .0) in
-    record { shown = parts .1; count = count; short = omega arith }
+showing : (capacity : ℕ) (u : WeightUnit) (c n : ℕ) (t : List ℕ) → isWrong capacity u c t ≡ false → ownRule u c t ≡ Show n → Showing c t n
+unfolding ownRule isWrong
+showing capacity u c n t right own =
+    let by = show-by (isD c) (isTA c && hasSpace t) (length (afterSpace t) - 2) c n (amountIn (typedIn u (afterSpace t))) own in
+    let is : c ≡ 12 = eqb-true c 12 (by .0) in
+    let fine : (hasSpace t && isQuoted (afterSpace t)) ≡ true =
+    not-false (hasSpace t && isQuoted (afterSpace t)) (neither-left (not (hasSpace t && isQuoted (afterSpace t))) false (rw is at right)) in
+    let both = and-eq-true-iff (hasSpace t) (isQuoted (afterSpace t)) .0 fine in
+    record { is = is; spaced = both .0; quotes = shown-between (afterSpace t) (both .1); count = by .1 }
 
 -- a number that the capacity allows
 amount-by : (capacity : ℕ) (n : Typed) → presetOf capacity n ≡ true → (n ≡ Amount (amountIn n)) × (natAbs (amountIn n .0) ≤ capacity)
@@ -411,7 +401,7 @@ module _ (capacity : ℕ) (u : WeightUnit) (f : List Marked) (waiting sampled : 
       let amount = amount-by capacity (typedIn u (parameterIn f)) (parts .1) in
       record {
         line = record { bytes = name-then (map byteIn f) (b .a-name) (both .1) ∙ ap (λ (x : ℕ). nameOf x ++ (space ∷ parameterIn f)) is; good = b .good };
-        parts = split (parameterIn f) (halves .0) ∙ ap (λ (x : List ℕ). beforeSpace (parameterIn f) ++ (space ∷ x)) unit;
+        parts = first-between space (parameterIn f) (halves .0) ∙ ap (λ (x : List ℕ). beforeSpace (parameterIn f) ++ (space ∷ x)) unit;
         unit = unit;
         number = amount .0 ∙ ap Amount (by .2);
         within = rw (by .2) at (amount .1);
@@ -421,26 +411,22 @@ module _ (capacity : ℕ) (u : WeightUnit) (f : List Marked) (waiting sampled : 
   -- ---- D with a text
 
   pub show-line : {n : ℕ} → judgementOf capacity u f waiting sampled ≡ Show n → ShowLine f waiting n
-  unfolding ownRule isWrong isQuoted
   show-line {n} e =
       let row = last refl e in
       let b : Begins f = begins f (row .known) in
-      let by = show-by (isD c) (isTA c && hasSpace (map byteIn f)) (length (parameterIn f) - 2) c n (amountIn (typedIn u (parameterIn f))) (row .own-rule) in
-      let is : c ≡ 12 = eqb-true c 12 (by .0) in
-      let right : (hasSpace (map byteIn f) && isQuoted (parameterIn f)) ≡ true =
-      not-false (hasSpace (map byteIn f) && isQuoted (parameterIn f))
-      (neither (not (hasSpace (map byteIn f) && isQuoted (parameterIn f))) false (rw is at (row .right)) .0) in
-      let both = and-eq-true-iff (hasSpace (map byteIn f)) (isQuoted (parameterIn f)) .0 right in
+      let d : Showing c (map byteIn f) n = showing capacity u c n (map byteIn f) (row .right) (row .own-rule) in
       let text : GoodLine f (ascii "D " ++ parameterIn f) =
-      record { bytes = name-then (map byteIn f) (b .a-name) (both .0) ∙ ap (λ (x : ℕ). nameOf x ++ (space ∷ parameterIn f)) is; good = b .good } in
-      let quotes = shown-between (parameterIn f) (both .1) in
+      record {
+        bytes = name-then (map byteIn f) (b .a-name) (d .spaced) ∙ ap (λ (x : ℕ). nameOf x ++ (space ∷ parameterIn f)) (d .is);
+        good = b .good;
+      } in
       record {
         line = text;
         in-cells = b .in-cells;
-        text = rw (text .bytes, sym (by .1));
-        shown = quotes .shown;
-        count = quotes .count ∙ by .1;
-        short = omega (arith, quotes .short, by .1);
+        text = rw (text .bytes, sym (d .count));
+        shown = d .quotes .shown;
+        count = d .quotes .count ∙ d .count;
+        short = omega (arith, d .quotes .few, d .count);
         free = row .free;
       }
 
@@ -481,11 +467,40 @@ module _ (capacity : ℕ) (u : WeightUnit) (f : List Marked) (waiting sampled : 
       let both = and-eq-true-iff (needsSample c) (not sampled) .0 (row .1) in
       (row .0, rw (row .0 .command) at (both .0), not-true sampled (both .1))
 
--- the text that D shows, in the cells
-pub show-cells : (capacity : ℕ) (u : WeightUnit) (l : Line) (f : List Marked) (waiting sampled : Bool) {n : ℕ} → Holds l f
-    → judgement capacity u l waiting sampled ≡ Show n → (isShown (take n (drop 3 (contentOf l))) ≡ true) × (length (take n (drop 3 (contentOf l))) ≡ n)
-show-cells capacity u l f waiting sampled {n} h e =
-    let shows : ShowLine f waiting n = show-line capacity u f waiting sampled (sym (holds-judged capacity u waiting sampled l f h) ∙ e) in
-    let same : take n (drop 3 (contentOf l)) ≡ betweenQuotes (parameterIn f) =
-    ap (λ (t : List ℕ). take n (drop 3 t)) (holds-whole h (shows .in-cells)) ∙ sym (shows .text) in
-    (ap isShown same ∙ shows .shown, ap length same ∙ shows .count)
+-- ---- the text that D shows, in the cells
+
+-- it has at most 20 bytes, whatever the cells hold
+pub show-short : (capacity : ℕ) (u : WeightUnit) (l : Line) (waiting sampled : Bool) {n : ℕ} → judgement capacity u l waiting sampled ≡ Show n → n ≤ 20
+unfolding judgement
+show-short capacity u l waiting sampled {n} e =
+    let c = commandIn (contentOf l) in
+    let row =
+    row-8 (l .faulty) (l .over || hasControl (contentOf l) || leb (length names) c) (hasSpace (contentOf l) && not (takesParameters c)) (isReset c) waiting
+    (isWrong capacity u c (contentOf l)) (needsSample c && not sampled) c (ownRule u c (contentOf l)) (Show n) refl e in
+    let d : Showing c (contentOf l) n = showing capacity u c n (contentOf l) (row .right) (row .own-rule) in
+    omega (arith, d .quotes .few, d .count)
+
+-- a part of the first k of a list is a part of the list
+part-of-front : (n j k : ℕ) (xs : List ℕ) → n ≤ k - j → take n (drop j (take k xs)) ≡ take n (drop j xs)
+part-of-front n zero k xs h = take-take n k xs (omega arith)
+part-of-front n (suc j) zero xs h = let none : n ≡ 0 = omega arith in rw none
+part-of-front n (suc j) (suc k) [] h = refl
+part-of-front n (suc j) (suc k) (x ∷ xs) h = part-of-front n j k xs (omega arith)
+
+pub show-cells : (l : Line) (f : List Marked) (waiting : Bool) (n : ℕ) → Holds l f → ShowLine f waiting n → Shown l n
+show-cells l f waiting n held h =
+    let count : length (take n (drop 3 (map byteIn f))) ≡ n = sym (ap length (h .text)) ∙ h .count in
+    let room : n ≤ length f - 3 = omega (arith, count, length-take n (drop 3 (map byteIn f)), length-drop 3 (map byteIn f), length-map f byteIn) in
+    let same : take n (drop 3 (l .bytes)) ≡ betweenQuotes (parameterIn f) =
+    sym (part-of-front n 3 (l .len) (l .bytes) (omega (arith, held .len, h .short)))
+    ∙ ap (λ (t : List ℕ). take n (drop 3 t)) (held .content)
+    ∙ part-of-front n 3 64 (map byteIn f) (omega (arith, h .short))
+    ∙ sym (h .text)
+    in
+    record {
+      short = h .short;
+      long = ap length same ∙ h .count;
+      printable =
+          ap isPrintable same
+          ∙ both-right (leb (length (betweenQuotes (parameterIn f))) 20) (isPrintable (betweenQuotes (parameterIn f))) (h .shown);
+    }

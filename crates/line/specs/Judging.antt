@@ -1,12 +1,11 @@
 -- Document 01, "Receiving": the table of a finished line, its rows in the paper's order, and the parameters of D and TA.
 -- Assumes nothing.
-use Prim.Native.Nat.{ℕ, _+_, _-_}
+use Prim.Native.Nat.{ℕ, _-_}
 use mathlib.Core.Bool.{Bool, true, false, cond, not, _&&_, _||_}
 use mathlib.Core.List.{List, [], _∷_}
 use lib.Dec.{leb, ltb, eqb}
-use lib.IntN.{ℤ, pos, natAbs}
+use lib.IntN.{pos, natAbs}
 use lib.ListN.{length, getD, take, drop}
-use Rattle.answer.specs.declared.answer.Error.{Error}
 use Rattle.answer.specs.declared.answer.Error.the-variants.{Syntax, Transmission, Logical}
 use Rattle.answer.specs.Commands.{names, placeOf}
 use Rattle.line.specs.declared.receive.Line.{Line}
@@ -18,6 +17,7 @@ use Rattle.weight.specs.declared.rounding.Micrograms.{Micrograms}
 use Rattle.weight.specs.declared.typed.Typed.{Typed}
 use Rattle.weight.specs.declared.typed.Typed.the-variants.{Amount, TooLarge, NotTyped}
 use Rattle.weight.specs.Ascii.{space, sameText}
+use Rattle.weight.specs.Searching.{beforeFirst, afterFirst, hasByte}
 use Rattle.weight.specs.Units.{unitText}
 use Rattle.weight.specs.Typed.{readTyped}
 
@@ -25,17 +25,14 @@ use Rattle.weight.specs.Typed.{readTyped}
 
 -- the bytes before the first space, all of them where there is none
 abbrev pub beforeSpace : List ℕ → List ℕ
-beforeSpace [] = []
-beforeSpace (c ∷ t) = cond (eqb c space) [] (c ∷ beforeSpace t)
+beforeSpace t = beforeFirst space t
 
 -- the bytes after the first space
 abbrev pub afterSpace : List ℕ → List ℕ
-afterSpace [] = []
-afterSpace (c ∷ t) = cond (eqb c space) t (afterSpace t)
+afterSpace t = afterFirst space t
 
 abbrev pub hasSpace : List ℕ → Bool
-hasSpace [] = false
-hasSpace (c ∷ t) = eqb c space || hasSpace t
+hasSpace t = hasByte space t
 
 -- a byte below 32
 abbrev pub hasControl : List ℕ → Bool
@@ -128,8 +125,8 @@ isWrong capacity unit c t =
 -- ---- the table
 
 -- over 64 bytes, or a byte below 32, or the bytes before the first space are no name
-abbrev pub isUnknown : Line → Bool
-isUnknown l = l .over || hasControl (contentOf l) || leb (length names) (commandIn (contentOf l))
+abbrev pub unknownIn : Bool → List ℕ → Bool
+unknownIn over t = over || hasControl t || leb (length names) (commandIn t)
 
 -- the command's own rule, with its parameter
 unfoldable pub ownRule : WeightUnit → ℕ → List ℕ → Verdict
@@ -148,13 +145,13 @@ firstRow faulty unknown extra reset waiting wrong missing c own =
     (cond wrong (Wrong c)
     (cond missing (NoSample c) own))))))
 
-unfoldable pub judgement : ℕ → WeightUnit → Line → Bool → Bool → Verdict
-judgement capacity unit l waiting sampled =
-    let t = contentOf l in
+-- over a line's marks and its bytes
+abbrev pub table : ℕ → WeightUnit → Bool → Bool → List ℕ → Bool → Bool → Verdict
+table capacity unit faulty over t waiting sampled =
     let c = commandIn t in
     firstRow
-    (l .faulty)
-    (isUnknown l)
+    faulty
+    (unknownIn over t)
     (hasSpace t && not (takesParameters c))
     (isReset c)
     waiting
@@ -162,3 +159,6 @@ judgement capacity unit l waiting sampled =
     (needsSample c && not sampled)
     c
     (ownRule unit c t)
+
+unfoldable pub judgement : ℕ → WeightUnit → Line → Bool → Bool → Verdict
+judgement capacity unit l waiting sampled = table capacity unit (l .faulty) (l .over) (contentOf l) waiting sampled

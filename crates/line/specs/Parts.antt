@@ -1,41 +1,24 @@
 -- What the parts of the judgement promise each other.
 -- Assumes nothing.
-use Prim.Native.Nat.{ℕ, _+_, _-_, _≤_}
-use mathlib.Core.Path.{_≡_}
-use mathlib.Core.Bool.{Bool, cond, not, _&&_, _||_}
+use Prim.Native.Nat.{ℕ, _-_}
+use mathlib.Core.Bool.{Bool, cond, not, _&&_}
 use mathlib.Core.List.{List}
-use lib.Dec.{leb, ltb}
-use lib.ListN.{length, take, drop}
+use lib.ListN.{length}
 use Rattle.line.specs.declared.judge.Verdict.{Verdict}
 use Rattle.line.specs.declared.judge.Verdict.the-variants.{Wrong, NoSample, Preset, Show}
-use Rattle.answer.specs.Commands.{names}
 use Rattle.line.specs.Judging.{
-  beforeSpace,
-  afterSpace,
-  hasSpace,
-  hasControl,
-  commandIn,
   isQuoted,
   typedIn,
   presetOf,
   amountIn,
   isPreset,
-  takesParameters,
-  isReset,
   isWrong,
   needsSample,
-  firstRow,
+  table,
   ownRule,
 }
 use Rattle.weight.specs.declared.units.WeightUnit.{WeightUnit}
 use Rattle.weight.specs.declared.typed.Typed.{Typed}
-
--- the first space of t is at i, or i is the length and there is none
-pub record SpaceAt (t : List ℕ) (i : ℕ) : Type 0 where
-  pub in-text : i ≤ length t
-  pub before : take i t ≡ beforeSpace t
-  pub after : drop (i + 1) t ≡ afterSpace t
-  pub has : ltb i (length t) ≡ hasSpace t
 
 -- rows 6 to 8 of D with the parameter p
 unfoldable pub showRule : List ℕ → Verdict
@@ -54,17 +37,6 @@ unfoldable pub lastRows : ℕ → WeightUnit → ℕ → List ℕ → Bool → V
 lastRows capacity unit c t sampled =
     cond (isWrong capacity unit c t) (Wrong c) (cond (needsSample c && not sampled) (NoSample c) (ownRule unit c t))
 
--- the table over a line's marks and its bytes
+-- the table over a line's marks and its bytes, shut
 unfoldable pub textRows : ℕ → WeightUnit → Bool → Bool → List ℕ → Bool → Bool → Verdict
-textRows capacity unit faulty over t waiting sampled =
-    let c = commandIn t in
-    firstRow
-    faulty
-    (over || hasControl t || leb (length names) c)
-    (hasSpace t && not (takesParameters c))
-    (isReset c)
-    waiting
-    (isWrong capacity unit c t)
-    (needsSample c && not sampled)
-    c
-    (ownRule unit c t)
+textRows capacity unit faulty over t waiting sampled = table capacity unit faulty over t waiting sampled

@@ -53,15 +53,15 @@ settledLine l = chosenLine (l .returned) (joinedLine l carriageReturn false) l
 abbrev pub withReturn : Line → Bool → Line
 withReturn l r = record { bytes = l .bytes; len = l .len; over = l .over; faulty = l .faulty; returned = r }
 
+-- a byte that does not end the line: a good CR is kept apart, any other joins it
+abbrev pub continuedLine : Line → ℕ → Bool → Line
+continuedLine l b bad =
+    chosenLine (not bad && eqb b carriageReturn) (withReturn (settledLine l) true) (joinedLine (settledLine l) b bad)
+
 -- a good LF ends a line whose last byte was a good CR
 abbrev pub endsLine : Line → ℕ → Bool → Bool
 endsLine l b bad = not bad && (l .returned && eqb b lineFeed)
 
 unfoldable pub receivedByte : Line → ℕ → Bool → Received
 receivedByte l b bad =
-    record {
-      ended = endsLine l b bad;
-      line =
-          chosenLine (endsLine l b bad) (withReturn l false)
-          (chosenLine (not bad && eqb b carriageReturn) (withReturn (settledLine l) true) (joinedLine (settledLine l) b bad));
-    }
+    record { ended = endsLine l b bad; line = chosenLine (endsLine l b bad) (withReturn l false) (continuedLine l b bad) }

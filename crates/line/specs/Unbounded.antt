@@ -2,14 +2,13 @@
 -- judging table over a finished line of any length.
 -- Assumes nothing.
 use Prim.Native.Nat.{ℕ}
-use mathlib.Core.Bool.{Bool, true, false, cond, not, _&&_, _||_}
+use mathlib.Core.Bool.{Bool, false, cond, not, _&&_, _||_}
 use mathlib.Core.List.{List, [], _∷_, map, reverse}
-use lib.Dec.{leb, ltb, eqb}
+use lib.Dec.{ltb, eqb}
 use lib.ListN.{length, drop}
-use Rattle.answer.specs.Commands.{names}
 use Rattle.line.specs.declared.judge.Verdict.{Verdict}
 use Rattle.line.specs.Receiving.{carriageReturn, lineFeed, lineLimit}
-use Rattle.line.specs.Judging.{commandIn, hasSpace, hasControl, takesParameters, isReset, isWrong, needsSample, firstRow, ownRule}
+use Rattle.line.specs.Judging.{table}
 use Rattle.weight.specs.declared.units.WeightUnit.{WeightUnit}
 
 pub record Marked : Type 0 where
@@ -47,15 +46,4 @@ anyFaulty (m ∷ u) = m .faulty || anyFaulty u
 -- the judging table over a finished line
 unfoldable pub judgementOf : ℕ → WeightUnit → List Marked → Bool → Bool → Verdict
 judgementOf capacity unit f waiting sampled =
-    let t = map byteIn f in
-    let c = commandIn t in
-    firstRow
-    (anyFaulty f)
-    (ltb lineLimit (length f) || hasControl t || leb (length names) c)
-    (hasSpace t && not (takesParameters c))
-    (isReset c)
-    waiting
-    (isWrong capacity unit c t)
-    (needsSample c && not sampled)
-    c
-    (ownRule unit c t)
+    table capacity unit (anyFaulty f) (ltb lineLimit (length f)) (map byteIn f) waiting sampled

@@ -3,12 +3,13 @@ ghost use mathlib.Core.Path.{_≡_};
 ghost use Prim.Native.Nat.{min};
 ghost use Rattle.line.specs.Judging.{takesParameters, needsSample, judgement};
 ghost use Rattle.line.specs.Receiving.{lineLimit};
-ghost use Rattle.line.specs.Parts.{SpaceAt, lastRows, textRows};
+ghost use Rattle.line.specs.Parts.{lastRows, textRows};
+ghost use Rattle.weight.specs.Ascii.{space};
+ghost use Rattle.weight.specs.Searching.{FirstAt};
 use crate::parameter::preset_rule;
 use crate::parameter::show_rule;
 use crate::receive::Line;
 use crate::scan::has_control;
-use crate::scan::space_at;
 use answer::D;
 use answer::Error;
 use answer::NONE;
@@ -21,6 +22,7 @@ use answer::ZI;
 use answer::find_command;
 use weight::Micrograms;
 use weight::WeightUnit;
+use weight::first_at;
 
 pub enum Verdict {
     Refused(Error),
@@ -57,22 +59,22 @@ fn last_rows(
     unit: WeightUnit,
     command: u8,
     text: &[u8],
-    space: usize,
+    end: usize,
     sampled: bool,
 ) -> Verdict
-    requires { ⌜ SpaceAt (now text) space ⌝ }
+    requires { ⌜ FirstAt space (now text) end ⌝ }
     ensures { λ r. ⌜ r ≡ lastRows capacity unit command (now (text .entry)) sampled ⌝ }
 {
     if command == D {
-        if space < text.len() {
-            let start = space + 1;
+        if end < text.len() {
+            let start = end + 1;
             return show_rule(&text[start..]);
         }
         return Verdict::Wrong(D);
     }
     if command == TA {
-        if space < text.len() {
-            let start = space + 1;
+        if end < text.len() {
+            let start = end + 1;
             return preset_rule(capacity, unit, &text[start..]);
         }
         return Verdict::Run(TA);
@@ -94,10 +96,10 @@ fn judge_text(
 ) -> Verdict
     ensures { λ r. ⌜ r ≡ textRows capacity unit faulty over (now (text .entry)) waiting sampled ⌝ }
 {
-    let space = space_at(text);
-    let command = find_command(&text[..space]);
+    let end = first_at(text, b' ');
+    let command = find_command(&text[..end]);
     let unknown = over | has_control(text) | (NONE <= command);
-    let extra = (space < text.len()) & !takes_parameters(command);
+    let extra = (end < text.len()) & !takes_parameters(command);
     if faulty {
         return Verdict::Refused(Error::Transmission);
     }
@@ -113,7 +115,7 @@ fn judge_text(
     if waiting {
         return Verdict::Busy(command);
     }
-    last_rows(capacity, unit, command, text, space, sampled)
+    last_rows(capacity, unit, command, text, end, sampled)
 }
 
 // How many cells hold the line: all of them where `len` says more.

@@ -6,9 +6,8 @@ mod scan;
 
 pub use judge::Verdict;
 pub use judge::judge_line;
-pub use parameter::is_shown;
 pub use receive::Line;
 pub use receive::Received;
 pub use receive::cleared;
-pub use receive::empty_line;
 pub use receive::receive_byte;
+pub use scan::is_printable;

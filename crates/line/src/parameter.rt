@@ -1,23 +1,17 @@
 // The parameters of D and TA.
 ghost use mathlib.Core.Path.{_≡_};
-ghost use mathlib.Core.Bool.{true};
-ghost use lib.IntN.{natAbs};
-ghost use lib.Signed.{nonNeg};
-ghost use Rattle.line.specs.Judging.{isShown, isQuoted, amountIn};
+ghost use Rattle.line.specs.Judging.{isShown, isQuoted};
 ghost use Rattle.line.specs.Parts.{showRule, amountRule, presetRule};
-ghost use Rattle.weight.specs.Ascii.{sameText};
-ghost use Rattle.weight.specs.Units.{unitText};
 use crate::judge::Verdict;
 use crate::scan::is_printable;
-use crate::scan::space_at;
 use answer::D;
 use answer::TA;
-use weight::Micrograms;
 use weight::Typed;
 use weight::WeightUnit;
+use weight::first_at;
+use weight::is_unit;
 use weight::read_typed;
-use weight::same_text;
-use weight::unit_text;
+use weight::size_of;
 
 const QUOTE: u8 = 34;
 
@@ -55,25 +49,8 @@ pub fn show_rule(parameter: &[u8]) -> Verdict
     Verdict::Wrong(D)
 }
 
-fn is_unit(unit: WeightUnit, text: &[u8]) -> bool
-    ensures { λ r. ⌜ r ≡ sameText (now (text .entry)) (unitText unit) ⌝ }
-{
-    let name = unit_text(unit);
-    let cells = name.cells;
-    let len = name.len;
-    same_text(text, &cells[..len])
-}
-
-fn size_of(amount: Micrograms) -> u64
-    requires { ⌜ nonNeg (amount .0) ≡ true ⌝ }
-    ensures { λ r. ⌜ r ≡ natAbs (amount .0) ⌝ }
-{
-    amount.0 as u64
-}
-
-// A number as read, which is not below zero: not above the capacity.
+// A number as read: not above the capacity.
 fn amount_rule(capacity: u32, typed: Typed) -> Verdict
-    requires { ⌜ nonNeg (amountIn typed .0) ≡ true ⌝ }
     ensures { λ r. ⌜ r ≡ amountRule capacity typed ⌝ }
 {
     match typed {
@@ -94,12 +71,12 @@ fn amount_rule(capacity: u32, typed: Typed) -> Verdict
 pub fn preset_rule(capacity: u32, unit: WeightUnit, parameter: &[u8]) -> Verdict
     ensures { λ r. ⌜ r ≡ presetRule capacity unit (now (parameter .entry)) ⌝ }
 {
-    let space = space_at(parameter);
+    let space = first_at(parameter, b' ');
     if parameter.len() <= space {
         return Verdict::Wrong(TA);
     }
     let start = space + 1;
-    if is_unit(unit, &parameter[start..]) {
+    if is_unit(&parameter[start..], unit) {
         return amount_rule(capacity, read_typed(unit, &parameter[..space]));
     }
     Verdict::Wrong(TA)

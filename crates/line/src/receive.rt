@@ -1,6 +1,6 @@
 // A byte joins the line being received.
 ghost use mathlib.Core.Path.{_≡_};
-ghost use Rattle.line.specs.Receiving.{clearedLine, emptyLine, joinedLine, settledLine, withReturn, receivedByte};
+ghost use Rattle.line.specs.Receiving.{clearedLine, continuedLine, withReturn, receivedByte};
 
 // The bytes of the line so far, and what is known of those that had no place.
 pub struct Line {
@@ -27,18 +27,6 @@ const CARRIAGE_RETURN: u8 = 13;
 
 const LINE_FEED: u8 = 10;
 
-pub fn empty_line() -> Line
-    ensures { λ r. ⌜ r ≡ emptyLine ⌝ }
-{
-    Line {
-        bytes: [0u8; 64],
-        len: 0,
-        over: false,
-        faulty: false,
-        returned: false,
-    }
-}
-
 // Nothing received; the cells are left as they are.
 pub fn cleared(line: Line) -> Line
     ensures { λ r. ⌜ r ≡ clearedLine line ⌝ }
@@ -51,43 +39,6 @@ pub fn cleared(line: Line) -> Line
         faulty: false,
         returned: false,
     }
-}
-
-// The byte takes the next cell, or none where all are taken.
-fn joined(line: Line, byte: u8, faulty: bool) -> Line
-    ensures { λ r. ⌜ r ≡ joinedLine line byte faulty ⌝ }
-{
-    let mut bytes = line.bytes;
-    let len = line.len;
-    let any_faulty = line.faulty | faulty;
-    if LINE_LIMIT <= len {
-        return Line {
-            bytes,
-            len,
-            over: true,
-            faulty: any_faulty,
-            returned: false,
-        };
-    }
-    bytes[len as usize] = byte;
-    let next = len + 1;
-    Line {
-        bytes,
-        len: next,
-        over: line.over,
-        faulty: any_faulty,
-        returned: false,
-    }
-}
-
-// A CR that no LF followed is part of the line.
-fn settled(line: Line) -> Line
-    ensures { λ r. ⌜ r ≡ settledLine line ⌝ }
-{
-    if line.returned {
-        return joined(line, CARRIAGE_RETURN, false);
-    }
-    line
 }
 
 fn with_return(line: Line, returned: bool) -> Line
@@ -103,7 +54,42 @@ fn with_return(line: Line, returned: bool) -> Line
     }
 }
 
-// A good LF after a good CR ends the line; a good CR is kept apart until the next byte shows whether it does.
+// A byte that does not end the line: a CR that was kept apart and then the byte take the next cells, or none where all are taken. A good
+// CR is kept apart in its turn. One function for both, since each would copy the cells.
+fn continued(line: Line, byte: u8, faulty: bool) -> Line
+    ensures { λ r. ⌜ r ≡ continuedLine line byte faulty ⌝ }
+{
+    let returns = !faulty & (byte == CARRIAGE_RETURN);
+    let any_faulty = line.faulty | faulty;
+    let mut bytes = line.bytes;
+    let mut len = line.len;
+    let mut over = line.over;
+    if line.returned {
+        if LINE_LIMIT <= len {
+            over = true;
+        } else {
+            bytes[len as usize] = CARRIAGE_RETURN;
+            len += 1;
+        }
+    }
+    if !returns {
+        if LINE_LIMIT <= len {
+            over = true;
+        } else {
+            bytes[len as usize] = byte;
+            len += 1;
+        }
+    }
+    Line {
+        bytes,
+        len,
+        over,
+        faulty: any_faulty,
+        returned: returns,
+    }
+}
+
+// A good LF after a good CR ends the line.
 pub fn receive_byte(line: Line, byte: u8, faulty: bool) -> Received
     ensures { λ r. ⌜ r ≡ receivedByte line byte faulty ⌝ }
 {
@@ -114,16 +100,8 @@ pub fn receive_byte(line: Line, byte: u8, faulty: bool) -> Received
             line: with_return(line, false),
         };
     }
-    let returns = !faulty & (byte == CARRIAGE_RETURN);
-    let before = settled(line);
-    if returns {
-        return Received {
-            ended: false,
-            line: with_return(before, true),
-        };
-    }
     Received {
         ended: false,
-        line: joined(before, byte, faulty),
+        line: continued(line, byte, faulty),
     }
 }

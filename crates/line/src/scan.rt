@@ -1,25 +1,10 @@
 // Searches through a line's bytes.
 ghost use mathlib.Core.Path.{_≡_};
 ghost use Rattle.line.specs.Judging.{hasControl, isPrintable};
-ghost use Rattle.line.specs.Parts.{SpaceAt};
 
 const SPACE: u8 = 32;
 
 const QUOTE: u8 = 34;
-
-// Where the first space is; the length where there is none.
-pub fn space_at(text: &[u8]) -> usize
-    ensures { λ r. ⌜ SpaceAt (now (text .entry)) r ⌝ }
-{
-    let mut i = 0;
-    while i < text.len() {
-        if text[i] == SPACE {
-            return i;
-        }
-        i += 1;
-    }
-    i
-}
 
 // A byte below 32.
 pub fn has_control(text: &[u8]) -> bool

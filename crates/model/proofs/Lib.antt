@@ -1,7 +1,5 @@
 pub mod Conjunctions
-mod NetEnds
 pub mod Nets
-mod PrintableText
 pub mod ProfileFacts
 pub mod Sizes
 pub mod StateFacts

@@ -2,9 +2,13 @@
 -- Assumes nothing.
 use mathlib.Core.Path.{_≡_}
 use mathlib.Core.Bool.{Bool, true, false, _&&_}
-use Prim.Native.Nat.{_≤_}
+use mathlib.Core.List.{List}
+use Prim.Native.Nat.{ℕ, _≤_}
+use native.Mathlib.Omega.{arith}
 use borrow.Author.Tests.{leb-true}
 use lib.Dec.{leb}
+use lib.ListN.{length, take, length-take}
+use Rattle.line.specs.Judging.{isPrintable}
 use Rattle.weight.specs.Rounding.{allowedResolution}
 use Rattle.weight.proofs.Allowed.{both-left, both-right}
 use Rattle.model.specs.declared.profile.Profile.{Profile}
@@ -79,3 +83,9 @@ allowed-profile p h =
       serial = both-left (textAllowed20 (p .serial)) (textAllowed20 (p .identity)) shorts;
       identity = both-right (textAllowed20 (p .serial)) (textAllowed20 (p .identity)) shorts;
     }
+
+-- a text that is allowed is not longer than its limit
+pub text-short : (limit len : ℕ) (bytes : List ℕ) → (leb len limit && isPrintable (take len bytes)) ≡ true → length (take len bytes) ≤ limit
+text-short limit len bytes h =
+    let few = leb-true len limit (both-left (leb len limit) (isPrintable (take len bytes)) h) in
+    omega (arith, length-take len bytes)

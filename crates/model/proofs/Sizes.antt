@@ -1,6 +1,6 @@
 -- How far from zero a signed number is, by the ends that it lies between.
 -- Assumes nothing.
-use mathlib.Core.Path.{_≡_, refl}
+use mathlib.Core.Path.{_≡_}
 use mathlib.Core.Bool.{true, false≢true}
 use Prim.Native.Nat.{ℕ, zero, suc, _≤_}
 use native.Mathlib.Omega.{arith}
@@ -8,22 +8,12 @@ use borrow.Author.Tests.{leb-true}
 use lib.IntN.{ℤ, pos, negsuc, negℤ, natAbs}
 use lib.Signed.{leZ}
 
--- the opposite of a count is as large
-pub size-opposite : (n : ℕ) → natAbs (negℤ (pos n)) ≡ n
-size-opposite zero = refl
-size-opposite (suc n) = refl
-
 -- between -low and high, where high is not the larger one
 pub size-between
     : (low high : ℕ) (z : ℤ) → high ≤ low → leZ (negℤ (pos low)) z ≡ true → leZ z (pos high) ≡ true → natAbs z ≤ low
 size-between low high (pos m) h above below = omega (arith, leb-true m high below)
 size-between zero high (negsuc m) h above below = absurd (false≢true above)
 size-between (suc low) high (negsuc m) h above below = omega (arith, leb-true m low above)
-
--- a number that is not below zero is its size
-pub size-itself : (z : ℤ) → leZ (pos 0) z ≡ true → z ≡ pos (natAbs z)
-size-itself (pos m) above = refl
-size-itself (negsuc m) above = absurd (false≢true above)
 
 -- between 0 and high
 pub size-up-to : (high : ℕ) (z : ℤ) → leZ (pos 0) z ≡ true → leZ z (pos high) ≡ true → natAbs z ≤ high

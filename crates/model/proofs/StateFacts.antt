@@ -1,7 +1,7 @@
 -- What an allowed state gives: none of the cases of refusal 2.
 -- Assumes nothing.
 use mathlib.Core.Path.{_≡_, refl}
-use mathlib.Core.Bool.{true, _&&_}
+use mathlib.Core.Bool.{Bool, true, _&&_}
 use Prim.Native.Nat.{ℕ, zero, suc, _≤_, _<_}
 use native.Mathlib.Omega.{arith}
 use borrow.Author.Tests.{leb-true, ltb-true, le-leb}
@@ -14,17 +14,50 @@ use Rattle.model.specs.declared.state.State.{State}
 use Rattle.model.specs.Profiles.{textAllowed20}
 use Rattle.model.specs.States.{zeroAllowed, tareAllowed, lineAllowed, displayAllowed, waitingAllowed, repeatingAllowed, isPending, stateAllowed, startState}
 use Rattle.model.proofs.Conjunctions.{Four, four, implied}
-use Rattle.model.proofs.Sizes.{size-between, size-itself, size-up-to}
+use Rattle.model.proofs.Sizes.{size-between, size-up-to}
 
--- zero and tare in their ranges, as an order and as a size, and the other cases
+-- the six tests of a state
+pub record StateTests (p : Profile) (s : State) : Type 0 where
+  pub zero : zeroAllowed p s ≡ true
+  pub tare : tareAllowed p s ≡ true
+  pub line : lineAllowed s ≡ true
+  pub display : displayAllowed s ≡ true
+  pub waiting : waitingAllowed p s ≡ true
+  pub repeating : repeatingAllowed s ≡ true
+
+-- an allowed state passes each
+pub allowed-tests : (p : Profile) (s : State) → stateAllowed p s ≡ true → StateTests p s
+unfolding stateAllowed
+allowed-tests p s h =
+    let ranges = zeroAllowed p s && tareAllowed p s in
+    let cases : Four (ranges && lineAllowed s) (displayAllowed s) (waitingAllowed p s) (repeatingAllowed s) =
+    four (ranges && lineAllowed s) (displayAllowed s) (waitingAllowed p s) (repeatingAllowed s) h in
+    let inRanges = both-left ranges (lineAllowed s) (cases .first) in
+    record {
+      zero = both-left (zeroAllowed p s) (tareAllowed p s) inRanges;
+      tare = both-right (zeroAllowed p s) (tareAllowed p s) inRanges;
+      line = both-right ranges (lineAllowed s) (cases .first);
+      display = cases .second;
+      waiting = cases .third;
+      repeating = cases .fourth;
+    }
+
+all-six : (a b c d e f : Bool) → a ≡ true → b ≡ true → c ≡ true → d ≡ true → e ≡ true → f ≡ true → (a && b && c && d && e && f) ≡ true
+all-six a b c d e f ha hb hc hd he hf = rw (ha, hb, hc, hd, he) hf
+
+-- and a state that passes each is allowed
+pub tests-allow : (p : Profile) (s : State) → StateTests p s → stateAllowed p s ≡ true
+unfolding stateAllowed
+tests-allow p s h =
+    all-six (zeroAllowed p s) (tareAllowed p s) (lineAllowed s) (displayAllowed s) (waitingAllowed p s) (repeatingAllowed s)
+    (h .zero) (h .tare) (h .line) (h .display) (h .waiting) (h .repeating)
+
+-- zero by its size, the tare by its order and its size, and the other cases
 pub record AllowedState (p : Profile) (s : State) : Type 0 where
-  pub zero-least : leZ (negℤ (pos (p .zeroing))) (s .weighing .zero .0) ≡ true
-  pub zero-most : leZ (s .weighing .zero .0) (pos (p .zeroing)) ≡ true
   pub zero-size : natAbs (s .weighing .zero .0) ≤ p .zeroing
   pub tare-least : leZ (pos 0) (s .weighing .tare .0) ≡ true
   pub tare-most : leZ (s .weighing .tare .0) (pos (p .capacity)) ≡ true
   pub tare-size : natAbs (s .weighing .tare .0) ≤ p .capacity
-  pub tare-itself : s .weighing .tare .0 ≡ pos (natAbs (s .weighing .tare .0))
   pub line : s .line .len ≤ 64
   pub display : s .display .shown ≡ true → textAllowed20 (s .display .text) ≡ true
   pub waiting : isPending (s .waiting .pending) ≡ true → s .waiting .unstable < p .timeout
@@ -32,32 +65,23 @@ pub record AllowedState (p : Profile) (s : State) : Type 0 where
 
 -- no case of refusal 2 holds of an allowed state
 pub allowed-state : (p : Profile) (s : State) → stateAllowed p s ≡ true → AllowedState p s
-unfolding stateAllowed
 allowed-state p s h =
-    let ranges = zeroAllowed p s && tareAllowed p s in
-    let cases : Four (ranges && lineAllowed s) (displayAllowed s) (waitingAllowed p s) (repeatingAllowed s) =
-    four (ranges && lineAllowed s) (displayAllowed s) (waitingAllowed p s) (repeatingAllowed s) h in
-    let inRanges = both-left ranges (lineAllowed s) (cases .first) in
-    let zeros = both-left (zeroAllowed p s) (tareAllowed p s) inRanges in
-    let tares = both-right (zeroAllowed p s) (tareAllowed p s) inRanges in
+    let tests : StateTests p s = allowed-tests p s h in
     let zero = s .weighing .zero .0 in
     let tare = s .weighing .tare .0 in
-    let zero-low = both-left (leZ (negℤ (pos (p .zeroing))) zero) (leZ zero (pos (p .zeroing))) zeros in
-    let zero-high = both-right (leZ (negℤ (pos (p .zeroing))) zero) (leZ zero (pos (p .zeroing))) zeros in
-    let tare-low = both-left (leZ (pos 0) tare) (leZ tare (pos (p .capacity))) tares in
-    let tare-high = both-right (leZ (pos 0) tare) (leZ tare (pos (p .capacity))) tares in
+    let zero-low = both-left (leZ (negℤ (pos (p .zeroing))) zero) (leZ zero (pos (p .zeroing))) (tests .zero) in
+    let zero-high = both-right (leZ (negℤ (pos (p .zeroing))) zero) (leZ zero (pos (p .zeroing))) (tests .zero) in
+    let tare-low = both-left (leZ (pos 0) tare) (leZ tare (pos (p .capacity))) (tests .tare) in
+    let tare-high = both-right (leZ (pos 0) tare) (leZ tare (pos (p .capacity))) (tests .tare) in
     record {
-      zero-least = zero-low;
-      zero-most = zero-high;
       zero-size = size-between (p .zeroing) (p .zeroing) zero (omega arith) zero-low zero-high;
       tare-least = tare-low;
       tare-most = tare-high;
       tare-size = size-up-to (p .capacity) tare tare-low tare-high;
-      tare-itself = size-itself tare tare-low;
-      line = leb-true _ _ (both-right ranges (lineAllowed s) (cases .first));
-      display = implied (s .display .shown) (textAllowed20 (s .display .text)) (cases .second);
-      waiting = λ e. ltb-true _ _ (implied (isPending (s .waiting .pending)) (ltb (s .waiting .unstable) (p .timeout)) (cases .third) e);
-      repeating = implied (s .repeating) (s .weighing .sampled) (cases .fourth);
+      line = leb-true _ _ (tests .line);
+      display = implied (s .display .shown) (textAllowed20 (s .display .text)) (tests .display);
+      waiting = λ e. ltb-true _ _ (implied (isPending (s .waiting .pending)) (ltb (s .waiting .unstable) (p .timeout)) (tests .waiting) e);
+      repeating = implied (s .repeating) (s .weighing .sampled) (tests .repeating);
     }
 
 -- zero lies between a count's opposite and the count

@@ -1,12 +1,13 @@
 -- A count and a load of 32 bits as micrograms of 64 bits: what the machine operations ask and give.
 -- Assumes nothing.
 use mathlib.Core.Path.{_≡_}
-use Prim.Native.Nat.{ℕ, zero, suc, _<_, _^_}
+use Prim.Native.Nat.{ℕ, _<_, _^_}
 use native.Mathlib.Omega.{arith}
 use lib.IntN.{ℤ, pos, negℤ, _-ℤ_, +ℤ-idl}
 use mir.Syntax.{w32, w64}
 use mir.Val.{Fits, SFits, toZ, ofZ}
-use mir.Facts.{toZ-ofZ, toZ-pos, sfits-widen, sfits-lit, fits-lt-pow}
+use mir.Facts.{toZ-ofZ, toZ-pos, sfits-widen, fits-lt-pow}
+use Rattle.weight.proofs.Machine.{opposite-fits}
 
 -- a count of 32 bits is below half of what 64 bits hold
 count-small : {n : ℕ} → Fits w32 n → n < 2 ^ 63
@@ -15,11 +16,6 @@ count-small f = omega (arith, fits-lt-pow f)
 -- so the signed number of the same bits is the count
 pub count-gives : {n : ℕ} → Fits w32 n → toZ w64 n ≡ pos n
 count-gives f = toZ-pos w64 (count-small f)
-
--- and its opposite is a signed number
-opposite-fits : (n : ℕ) → n < 2 ^ 63 → SFits w64 (negℤ (pos n))
-opposite-fits zero h = sfits-lit tt
-opposite-fits (suc n) h = record { sfits = omega arith }
 
 module _ (n : ℕ) (f : Fits w32 n) where
   pub opposite-asks : SFits w64 (pos 0 -ℤ toZ w64 n)

@@ -1,6 +1,5 @@
 -- Document 01, "Refusal numbers", case 2, and the state that power-on returns.
 -- Assumes nothing.
-use Prim.Native.Nat.{ℕ}
 use mathlib.Core.Bool.{Bool, true, false, not, _&&_, _||_}
 use lib.Dec.{leb, ltb}
 use lib.IntN.{pos, negℤ}

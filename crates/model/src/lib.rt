@@ -1,6 +1,7 @@
 // What a device is made of: its profile and its state, and the tests whether they are refused (refusals 1 and 2).
 // The crates above use the promises of the functions named here and the laws of proofs/.
 mod profile;
+mod refusal;
 mod signed;
 mod state;
 mod weighing;
@@ -9,6 +10,7 @@ pub use profile::Profile;
 pub use profile::Text20;
 pub use profile::Text40;
 pub use profile::is_profile_allowed;
+pub use refusal::Refusal;
 pub use signed::above;
 pub use signed::from_count;
 pub use signed::from_load;

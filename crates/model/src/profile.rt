@@ -1,16 +1,15 @@
 // What is fixed from power-on, and whether it is allowed.
 ghost use mathlib.Core.Path.{_≡_};
-ghost use mathlib.Core.Bool.{not, _&&_};
+ghost use mathlib.Core.Bool.{_&&_};
 ghost use Prim.Native.Nat.{_≤_};
-ghost use lib.Dec.{leb, eqb};
+ghost use lib.Dec.{leb};
 ghost use lib.ListN.{length, take};
 ghost use Rattle.line.specs.Judging.{isPrintable};
 ghost use Rattle.weight.specs.Rounding.{allowedResolution};
 ghost use Rattle.model.specs.Profiles.{capacityAllowed, underloadAllowed, zeroRangeAllowed, timeoutAllowed, netsAllowed, textAllowed20, textAllowed40, textsAllowed, profileAllowed};
-use crate::signed::from_count;
-use crate::signed::negative_of;
+use line::is_printable;
 use weight::Resolution;
-use weight::printed_number;
+use weight::fits_below_zero;
 
 // A text: its first `len` bytes.
 pub struct Text20 {
@@ -37,26 +36,7 @@ pub struct Profile {
     pub identity: Text20,
 }
 
-// Bytes 32 to 255 without 34.
-fn is_printable(c: u8) -> bool
-    ensures { λ r. ⌜ r ≡ leb 32 c && not (eqb c 34) ⌝ }
-{
-    (32 <= c) & (c != 34)
-}
-
-pub fn is_printable_text(bytes: &[u8]) -> bool
-    ensures { λ r. ⌜ r ≡ isPrintable (now (bytes .entry)) ⌝ }
-{
-    let mut good = true;
-    let mut i = 0;
-    while i < bytes.len() {
-        good = good & is_printable(bytes[i]);
-        i += 1;
-    }
-    good
-}
-
-// Whether there are `len` bytes, and they are such.
+// Whether there are `len` bytes, 32 to 255 without 34.
 fn is_text_allowed(bytes: &[u8], len: u8) -> bool
     ensures { λ r. ⌜ r ≡ (leb len (length (now (bytes .entry))) && isPrintable (take len (now (bytes .entry)))) ⌝ }
 {
@@ -64,7 +44,7 @@ fn is_text_allowed(bytes: &[u8], len: u8) -> bool
     if bytes.len() < count {
         return false;
     }
-    is_printable_text(&bytes[..count])
+    is_printable(&bytes[..count])
 }
 
 pub fn is_text_allowed20(text: Text20) -> bool
@@ -104,19 +84,14 @@ fn are_limits_allowed(profile: Profile) -> bool
     weights & ((1 <= timeout) & (timeout <= 1000))
 }
 
-// The resolution, and the two ends of the nets: with these limits every net is one that can be printed.
+// The resolution, and the lower end of the nets: where it fits, the upper one does.
 fn are_nets_allowed(profile: Profile) -> bool
     requires { ⌜ profile .capacity ≤ 1_000_000_000 ⌝ }
     requires { ⌜ profile .underload ≤ profile .capacity ⌝ }
     ensures { λ r. ⌜ r ≡ allowedResolution (profile .resolution) && netsAllowed profile ⌝ }
 {
     let resolution = profile.resolution;
-    let lowest = printed_number(
-        resolution,
-        negative_of(profile.underload + profile.capacity),
-    );
-    let highest = printed_number(resolution, from_count(profile.capacity));
-    lowest.fits & highest.fits
+    fits_below_zero(resolution, profile.underload + profile.capacity)
 }
 
 pub fn is_profile_allowed(profile: Profile) -> bool

@@ -1,12 +1,12 @@
 // The module with the profile and the room that are lent to it, and the calls.
 use crate::words::part;
 use device::Called;
-use device::Refusal;
 use device::power_on;
 use device::take_byte;
 use device::take_sample;
 use model::Load;
 use model::Profile;
+use model::Refusal;
 use model::State;
 use model::start_state;
 use profiles::profile_a;

@@ -5,7 +5,7 @@ use native.Mathlib.Nat.{mul-pos, mul-le-mul, one-le-pow, pow-le-pow-right}
 use native.Mathlib.Omega.{arith}
 use mathlib.Core.Path.{_≡_, refl}
 use mathlib.Core.Logic.{_⊎_, inl, inr, ⊎-elim}
-use mathlib.Core.Bool.{Bool, true, false, _&&_, _||_}
+use mathlib.Core.Bool.{Bool, true, false, _&&_, _||_, true≢false}
 use borrow.Author.Tests.{leb-true, eqb-true}
 use lib.Dec.{leb, eqb}
 use Rattle.weight.specs.declared.units.WeightUnit.{WeightUnit}
@@ -34,15 +34,28 @@ pub either-holds : (a b : Bool) → a || b ≡ true → (a ≡ true) ⊎ (b ≡ 
 either-holds true b h = inl refl
 either-holds false b h = inr h
 
--- every unit weighs something
+-- neither test of an `or` that fails does
+pub neither-left : (a b : Bool) → a || b ≡ false → a ≡ false
+neither-left true b h = h
+neither-left false b h = refl
+
+pub neither-right : (a b : Bool) → a || b ≡ false → b ≡ false
+neither-right true b h = absurd (true≢false h)
+neither-right false b h = h
+
+-- the milligram is the lightest unit
+pub nanograms-least : (u : WeightUnit) → 1_000_000 ≤ nanogramsOf u
+nanograms-least G = omega arith
+nanograms-least Mg = omega arith
+nanograms-least Ct = omega arith
+nanograms-least Oz = omega arith
+nanograms-least Ozt = omega arith
+nanograms-least Gn = omega arith
+nanograms-least Dwt = omega arith
+
+-- so every unit weighs something
 pub nanograms-positive : (u : WeightUnit) → 0 < nanogramsOf u
-nanograms-positive G = omega arith
-nanograms-positive Mg = omega arith
-nanograms-positive Ct = omega arith
-nanograms-positive Oz = omega arith
-nanograms-positive Ozt = omega arith
-nanograms-positive Gn = omega arith
-nanograms-positive Dwt = omega arith
+nanograms-positive u = omega (arith, nanograms-least u)
 
 -- the troy ounce is the heaviest unit
 pub nanograms-limit : (u : WeightUnit) → nanogramsOf u ≤ 31_103_476_800

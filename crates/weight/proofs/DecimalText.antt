@@ -1,60 +1,24 @@
 -- The parts of a decimal's text together: how long they are, how large the number is, and what is read of the whole from them.
 -- Assumes nothing.
 use mathlib.Core.Path.{_≡_, refl, _∙_, sym, ap, subst}
-use mathlib.Core.Bool.{Bool, true, false, cond, not, _&&_, _||_, and-false, and-true, and-assoc, and-eq-true-iff, false≢true, true≢false}
-use mathlib.Core.List.{List, [], _∷_, _++_}
+use mathlib.Core.Bool.{Bool, true, false, cond, not, _&&_, _||_, and-false, and-true, and-assoc, and-eq-true-iff, true≢false}
+use mathlib.Core.List.{List, [], _∷_}
 use Prim.Native.Nat.{ℕ, suc, _+_, _-_, _*_, _^_, _≤_, _<_}
 use native.Mathlib.Nat.{add-zero, zero-add, add-suc, suc-add, pow-suc, one-le-pow, pow-le-pow-right}
 use native.Mathlib.Omega.{arith}
-use lib.Dec.{eqb, leb}
+use lib.Dec.{leb}
 use lib.ListN.{length, take, drop, length-drop}
-use lib.Seq.{take-all, length-take-le}
-use borrow.Author.Tests.{le-ltb, lt-ltb, le-leb, lt-leb, leb-true, eqb-true}
+use lib.Seq.{length-take-le}
+use borrow.Author.Tests.{le-ltb, lt-ltb, le-leb, lt-leb, leb-true}
 use Rattle.weight.specs.Ascii.{point}
-use Rattle.weight.specs.Decimals.{PointAt, TenDigits, ReadsWhole, ReadsDecimal}
+use Rattle.weight.specs.Decimals.{TenDigits, ReadsWhole, ReadsDecimal}
+use Rattle.weight.specs.Searching.{FirstAt}
 use Rattle.weight.specs.Reading.{beforePoint, afterPoint, hasPoint, isDigit, allDigits, numberFrom, isNumber, isDecimal, decimalsIn, valueIn}
+use Rattle.weight.proofs.Searching.{rest-is, none-between, sides-short}
 
 -- both of two tests that hold together
 pub both : (a b : Bool) → a && b ≡ true → (a ≡ true) × (b ≡ true)
 both a b = and-eq-true-iff a b .0
-
--- ---- the two sides of the point
-
--- a text with a point is what stands before it, the point and what stands after it
-pub point-between : (t : List ℕ) → hasPoint t ≡ true → beforePoint t ++ (point ∷ afterPoint t) ≡ t
-point-between [] e = absurd (false≢true e)
-point-between (c ∷ t) e = go (eqb c point) refl e (point-between t)
-  where
-    go : (b : Bool)
-        → eqb c point ≡ b
-        → (b || hasPoint t) ≡ true
-        → (hasPoint t ≡ true → beforePoint t ++ (point ∷ afterPoint t) ≡ t)
-        → cond b [] (c ∷ beforePoint t) ++ (point ∷ cond b t (afterPoint t)) ≡ c ∷ t
-    go true p e ih = ap (λ (x : ℕ). x ∷ t) (sym (eqb-true c point p))
-    go false p e ih = ap (λ (r : List ℕ). c ∷ r) (ih e)
-
--- a text without a point stands before it, with nothing after it
-pub no-point : (t : List ℕ) → hasPoint t ≡ false → (beforePoint t ≡ t) × (afterPoint t ≡ [])
-no-point [] e = (refl, refl)
-no-point (c ∷ t) e = go (eqb c point) e (no-point t)
-  where
-    go : (b : Bool)
-        → (b || hasPoint t) ≡ false
-        → (hasPoint t ≡ false → (beforePoint t ≡ t) × (afterPoint t ≡ []))
-        → (cond b [] (c ∷ beforePoint t) ≡ c ∷ t) × (cond b t (afterPoint t) ≡ [])
-    go true e ih = absurd (true≢false e)
-    go false e ih = (ap (λ (r : List ℕ). c ∷ r) (ih e .0), ih e .1)
-
--- together they are no longer than the text
-parts-short : (t : List ℕ) → length (beforePoint t) + length (afterPoint t) ≤ length t
-parts-short [] = omega arith
-parts-short (c ∷ t) = go (eqb c point) (parts-short t)
-  where
-    go : (b : Bool)
-        → length (beforePoint t) + length (afterPoint t) ≤ length t
-        → length (cond b [] (c ∷ beforePoint t)) + length (cond b t (afterPoint t)) ≤ suc (length t)
-    go true ih = omega arith
-    go false ih = omega arith
 
 -- ---- the digits
 
@@ -98,10 +62,14 @@ decimal-parts t e = go (hasPoint t) refl (both (isNumber (beforePoint t)) (not (
     go false p e =
         record {
           whole = e .0;
-          digits = rw (no-point t p .1);
-          few = rw (no-point t p .1) (omega arith);
+          digits = rw (none-between point t p .1);
+          few = rw (none-between point t p .1) (omega arith);
           some = λ q. absurd (true≢false (sym q ∙ p));
         }
+
+pub decimals-limit : (t : List ℕ) → isDecimal t ≡ true → decimalsIn t ≤ 6
+unfolding decimalsIn
+decimals-limit t e = decimal-parts t e .few
 
 -- a text of digits, one at least
 pub number-parts : (t : List ℕ) → isNumber t ≡ true → (1 ≤ length t) × (allDigits t ≡ true)
@@ -114,7 +82,7 @@ value-small t short e =
     let d = decimal-parts t e in
     let w = number-small (beforePoint t) 0 0 (number-parts (beforePoint t) (d .whole) .1) (omega arith) in
     let f = number-small (afterPoint t) (0 + length (beforePoint t)) (numberFrom 0 (beforePoint t)) (d .digits) w in
-    let top = pow-le-pow-right {n = 10} (omega arith) {i = 0 + length (beforePoint t) + length (afterPoint t)} {j = 10} (omega (arith, parts-short t)) in
+    let top = pow-le-pow-right {n = 10} (omega arith) {i = 0 + length (beforePoint t) + length (afterPoint t)} {j = 10} (omega (arith, sides-short point t)) in
     omega (arith, f, top)
 
 -- ---- what is read of a decimal from what is read of its two sides
@@ -137,10 +105,6 @@ reads-decimal t good decimals value short is places number =
 no-decimal : (t : List ℕ) → length t ≤ 10 → isDecimal t ≡ false → ReadsDecimal t false 0 0
 no-decimal t short e = reads-decimal t false 0 0 short (sym e) (rw e) (rw e)
 
--- the end of a slice, as a call is lent it
-pub rest-is : (k : ℕ) (t : List ℕ) → take (length t - k) (drop k t) ≡ drop k t
-rest-is k t = take-all (length t - k) (drop k t) (rw (length-drop k t) (omega arith))
-
 -- what is read of equal texts is the same
 whole-of : {s t : List ℕ} {start value : ℕ} {good : Bool} → s ≡ t → ReadsWhole s start good value → ReadsWhole t start good value
 whole-of {start} {value} {good} e r = subst (λ (l : List ℕ). ReadsWhole l start good value) e r
@@ -160,7 +124,7 @@ nought true = refl
 nought false = refl
 
 -- the sides of the point as slices, and what is read of them
-module _ (t : List ℕ) (i : ℕ) (p : PointAt t i) (short : length t ≤ 10) where
+module _ (t : List ℕ) (i : ℕ) (p : FirstAt point t i) (short : length t ≤ 10) where
   pub whole-length : i ≡ length (take i t)
   whole-length = sym (length-take-le i t (p .in-text))
 
@@ -198,7 +162,7 @@ module _ (t : List ℕ) (i : ℕ) (p : PointAt t i) (short : length t ≤ 10) wh
       let bare : hasPoint t ≡ false = sym (p .has) ∙ le-ltb i (length t) h in
       let w = whole-of (p .before) r in
       let d = unpointed t bare in
-      let none = no-point t bare .1 in
+      let none = none-between point t bare .1 in
       reads-decimal t good 0 v short (w .is ∙ sym d) (rw none (nought (isDecimal t))) (rw (d, none) (w .number))
 
   -- digits on both sides of the point, six at most after it

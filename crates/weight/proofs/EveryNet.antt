@@ -5,7 +5,7 @@ use Prim.Native.Nat.{ℕ, zero, suc, _≤_}
 use native.Mathlib.Omega.{arith}
 use mathlib.Core.Path.{_≡_, refl}
 use mathlib.Core.Logic.{_↔_}
-use mathlib.Core.Bool.{Bool, true, _&&_, false≢true}
+use mathlib.Core.Bool.{Bool, true, false, _&&_, false≢true}
 use borrow.Author.Tests.{leb-true, le-leb}
 use lib.IntN.{ℤ, pos, negsuc, negℤ}
 use lib.Signed.{leZ}
@@ -60,6 +60,25 @@ fits-between r low high (negsuc m) lowFits highFits above below =
     (rw
     (places-amount r (negsuc m))
     (natural-places-monotone r (suc m) low (negative-amount m low above)))
+
+-- the minus only takes room: where the end below zero fits, so does one above zero that is no further from it
+pub low-end-decides
+    : (r : Resolution) (low high : ℕ)
+    → high ≤ low
+    → fitsField (r .decimals) (placesOf r (negℤ (pos low))) && fitsField (r .decimals) (placesOf r (pos high))
+    ≡ fitsField (r .decimals) (placesOf r (negℤ (pos low)))
+low-end-decides r low high h = go (netFits r (negℤ (pos low))) refl
+  where
+    go : (t : Bool) → netFits r (negℤ (pos low)) ≡ t → netFits r (negℤ (pos low)) && netFits r (pos high) ≡ netFits r (negℤ (pos low))
+    go false e = rw e
+    go true e =
+        rw e
+        (fits-above
+        (r .decimals)
+        (placesOf r (pos high))
+        (naturalPlaces r low)
+        (rw (places-of-negated r low) at e)
+        (rw (places-amount r (pos high)) (natural-places-monotone r high low h)))
 
 -- every net weight from -low to high fits exactly when the two ends do
 pub every-net-fits

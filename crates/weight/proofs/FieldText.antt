@@ -1,25 +1,26 @@
 -- What is read of a field: the minus, the zeros that lead, the sign and the whole.
 -- Assumes nothing.
 use mathlib.Core.Path.{_≡_, refl, _∙_, sym, ap, subst}
-use mathlib.Core.Bool.{Bool, true, false, not, _&&_}
+use mathlib.Core.Bool.{Bool, true, false, cond, not, _&&_, _||_, or-true, or-false}
 use mathlib.Core.List.{List, [], _∷_}
-use Prim.Native.Nat.{ℕ, zero, suc, _-_, _≤_, _<_}
+use Prim.Native.Nat.{ℕ, _-_, _≤_, _<_}
 use native.Mathlib.Omega.{arith}
 use lib.Dec.{eqb, ltb}
 use lib.IntN.{ℤ, pos, negℤ}
 use lib.ListN.{length, getD, take, drop, length-drop}
-use lib.Seq.{length-take-le, getD-take}
 use mir.Syntax.{w64}
 use mir.Val.{SFits, toZ, ofZ}
 use mir.Facts.{toZ-ofZ}
-use borrow.Author.Tests.{eq-eqb, ne-eqb, le-leb, lt-leb}
+use borrow.Author.Tests.{eq-eqb, ne-eqb, eqb-true, lt-leb}
 use Rattle.weight.specs.declared.reading.FieldRead.{FieldRead}
 use Rattle.weight.specs.declared.reading.FieldRead.the-variants.{Number, NoNumber}
 use Rattle.weight.specs.declared.rounding.LastPlaces.{LastPlaces}
-use Rattle.weight.specs.Ascii.{minus}
-use Rattle.weight.specs.Decimals.{PointAt, ReadsDecimal, MinusAt}
+use Rattle.weight.specs.Ascii.{minus, point}
+use Rattle.weight.specs.Decimals.{ReadsDecimal, MinusAt}
 use Rattle.weight.specs.Reading.{beforePoint, hasMinus, afterMinus, noLeadingZero, signed, isDecimal, valueIn, decimalsIn, isWritten, readNumber, readField, afterSpaces}
-use Rattle.weight.proofs.DecimalText.{both, rest-is}
+use Rattle.weight.proofs.DecimalText.{both}
+use Rattle.weight.proofs.Machine.{opposite-fits}
+use Rattle.weight.proofs.Searching.{rest-is}
 
 -- ---- the first byte
 
@@ -38,30 +39,36 @@ other-first (c ∷ t) h n = let m = ne-eqb c minus n in record { in-text = omega
 
 -- ---- the zeros that lead
 
-module _ (t : List ℕ) (i : ℕ) (p : PointAt t i) where
-  before-length : length (beforePoint t) ≡ i
-  before-length = ap length (sym (p .before)) ∙ length-take-le i t (p .in-text)
+-- no text of one byte has one
+pub one-byte : (t : List ℕ) → length t < 2 → true ≡ noLeadingZero (beforePoint t)
+one-byte [] h = refl
+one-byte (c ∷ []) h = by (eqb c point)
+  where
+    by : (b : Bool) → true ≡ noLeadingZero (cond b [] (c ∷ []))
+    by true = refl
+    by false = refl
+one-byte (c ∷ d ∷ t) h = absurd (omega arith)
 
-  -- one digit before the point, and more
-  pub one-place : i ≤ 1 → true ≡ noLeadingZero (beforePoint t)
-  one-place h = rw (before-length, le-leb i 1 h)
-
-  pub first-place : 1 < i → not (eqb (getD t 0 0) 48) ≡ noLeadingZero (beforePoint t)
-  first-place h = rw (before-length, lt-leb i 1 h, ← p .before, getD-take i t 0 0 (omega arith))
+-- in a longer one the first byte leads, unless the point follows it
+pub two-bytes : (t : List ℕ) → 2 ≤ length t → not (eqb (getD t 0 0) 48) || eqb (getD t 1 0) point ≡ noLeadingZero (beforePoint t)
+two-bytes [] h = absurd (omega arith)
+two-bytes (c ∷ []) h = absurd (omega arith)
+two-bytes (c ∷ d ∷ t) h = by (eqb c point) (eqb d point) refl
+  where
+    by : (b e : Bool) → eqb c point ≡ b → not (eqb c 48) || e ≡ noLeadingZero (cond b [] (c ∷ cond e [] (d ∷ beforePoint t)))
+    by true e p = rw (eqb-true c point p)
+    by false true p = or-true (not (eqb c 48))
+    by false false p = or-false (not (eqb c 48)) ∙ rw (lt-leb (length (c ∷ d ∷ beforePoint t)) 1 (omega arith))
 
 -- ---- the sign
 
--- ten digits fit a signed word, below zero too
+-- ten digits fit a signed word
 pub small-fits : (n : ℕ) → n < 10_000_000_000 → SFits w64 (pos n)
 small-fits n h = record { sfits = omega arith }
 
-pub opposite-fits : (n : ℕ) → n < 10_000_000_000 → SFits w64 (negℤ (pos n))
-opposite-fits zero h = record { sfits = omega arith }
-opposite-fits (suc n) h = record { sfits = omega arith }
-
 -- a number below zero, and one that is not
 pub below-places : (b : Bool) (m : ℕ) (n z : ℤ) → b ≡ true → n ≡ pos m → z ≡ negℤ n → m < 10_000_000_000 → toZ w64 (ofZ w64 z) ≡ signed b m
-below-places b m n z e p q h = rw (e, q, p) (toZ-ofZ (opposite-fits m h))
+below-places b m n z e p q h = rw (e, q, p) (toZ-ofZ (opposite-fits m (omega arith)))
 
 pub other-places : (b : Bool) (m : ℕ) (n : ℤ) → b ≡ false → n ≡ pos m → m < 10_000_000_000 → toZ w64 (ofZ w64 n) ≡ signed b m
 other-places b m n e p h = rw (e, p) (toZ-ofZ (small-fits m h))

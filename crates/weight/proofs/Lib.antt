@@ -1,12 +1,14 @@
 pub mod Allowed
-mod DecimalText
+mod BelowZero
+pub mod DecimalText
 pub mod Digits
 mod Ending
 pub mod EveryNet
 mod FieldText
 pub mod HalfStep
 mod HalfUp
-mod Machine
+pub mod Machine
+pub mod Matching
 pub mod Monotone
 pub mod Named
 pub mod Nearness
@@ -16,7 +18,7 @@ mod Printable
 mod Range
 pub mod ReadBack
 mod SameText
-mod Table
+pub mod Searching
 mod TypedLimit
 pub mod Width
 pub mod WriteBack

@@ -1,8 +1,8 @@
 -- Signed machine operations as integers: what an operation asks of its operands and what it gives.
 -- Assumes nothing.
-use mathlib.Core.Path.{_≡_, refl, sym, ap, _∙_, subst}
-use mathlib.Core.Bool.{Bool, true, false, not}
-use Prim.Native.Nat.{ℕ, zero, suc, _+_, _/_, _%_, _<_, _≤_, _^_, zero-le}
+use mathlib.Core.Path.{_≡_, refl, sym, subst}
+use mathlib.Core.Bool.{true, not}
+use Prim.Native.Nat.{ℕ, zero, suc, _+_, _/_, _^_, _≤_, _<_, zero-le}
 use native.Mathlib.Nat.{div-le-self, lt-of-le-of-lt, le-of-suc-le-suc}
 use native.Mathlib.Omega.{arith}
 use native.Mathlib.Numerals.{add-one}
@@ -46,6 +46,11 @@ module _ (n : ℤ) (f : SFits w64 n) where
 
   pub negate-gives : SFits w64 (negℤ n) → toZ w64 (ofZ w64 (pos 0 -ℤ toZ w64 (ofZ w64 n))) ≡ negℤ n
   negate-gives g = rw (toZ-ofZ f, +ℤ-idl) (toZ-ofZ g)
+
+-- the opposite of a natural number
+pub opposite-fits : (n : ℕ) → n < 2 ^ 63 → SFits w64 (negℤ (pos n))
+opposite-fits zero h = sfits-lit tt
+opposite-fits (suc n) h = record { sfits = omega arith }
 
 -- below zero
 below-zero : (n : ℤ) → ltZ n (pos 0) ≡ not (nonNeg n)

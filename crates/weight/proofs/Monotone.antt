@@ -1,7 +1,7 @@
 -- Rounding treats both signs alike and keeps the order.
 -- Assumes nothing.
-use Prim.Native.Nat.{ℕ, zero, suc, _+_, _*_, _^_, _≤_, _<_}
-use native.Mathlib.Nat.{div-zero, div-eq-of-lt, div-mul-le-self, le-div-iff-mul-le, mul-le-mul-right, zero-mul}
+use Prim.Native.Nat.{ℕ, zero, suc, _*_, _^_, _≤_}
+use native.Mathlib.Nat.{mul-le-mul-right, zero-mul}
 use native.Mathlib.Omega.{arith}
 use mathlib.Core.Path.{_≡_, refl, ap, sym, _∙_}
 use mathlib.Core.Bool.{true, false≢true}
@@ -12,7 +12,7 @@ use Rattle.weight.specs.declared.rounding.Resolution.{Resolution}
 use Rattle.weight.specs.Units.{nanogramsOf}
 use Rattle.weight.specs.Rounding.{halfUp, roundAway, stepsOf, placesOf}
 use Rattle.weight.proofs.HalfUp.{half-up-zero, half-up-monotone}
-use Rattle.weight.proofs.Nearness.{up, down, up-negated, down-negated, up-times, down-times, same-parts}
+use Rattle.weight.proofs.Nearness.{size-opposite, up, down, up-negated, down-negated, up-times, down-times, same-parts}
 
 -- ---- natural numbers
 
@@ -103,32 +103,10 @@ places-of-negsuc r m = places-of-negated r (suc m)
 
 -- ---- amounts
 
--- a minus leaves the amount
-amount-negated : (m : ℕ) → natAbs (negℤ (pos m)) ≡ m
-amount-negated zero = refl
-amount-negated (suc m) = refl
-
--- the amount of the rounded weight is the rounded amount
-pub steps-amount : (r : Resolution) (net : ℤ) → natAbs (stepsOf r net) ≡ naturalSteps r (natAbs net)
-steps-amount r (pos m) = ap natAbs (steps-of-pos r m)
-steps-amount r (negsuc m) = ap natAbs (steps-of-negsuc r m) ∙ amount-negated (naturalSteps r (suc m))
-
--- and so for the last places
+-- the amount of the printed number is that of the printed amount
 pub places-amount : (r : Resolution) (net : ℤ) → natAbs (placesOf r net) ≡ naturalPlaces r (natAbs net)
 places-amount r (pos m) = ap natAbs (places-of-pos r m)
-places-amount r (negsuc m) = ap natAbs (places-of-negsuc r m) ∙ amount-negated (naturalPlaces r (suc m))
-
--- a larger amount gives no fewer steps
-pub steps-amount-monotone
-    : (r : Resolution) (a b : ℤ) → natAbs a ≤ natAbs b → natAbs (stepsOf r a) ≤ natAbs (stepsOf r b)
-steps-amount-monotone r a b h =
-    omega (arith, steps-amount r a, steps-amount r b, natural-steps-monotone r (natAbs a) (natAbs b) h)
-
--- and prints no smaller amount
-pub places-amount-monotone
-    : (r : Resolution) (a b : ℤ) → natAbs a ≤ natAbs b → natAbs (placesOf r a) ≤ natAbs (placesOf r b)
-places-amount-monotone r a b h =
-    omega (arith, places-amount r a, places-amount r b, natural-places-monotone r (natAbs a) (natAbs b) h)
+places-amount r (negsuc m) = ap natAbs (places-of-negsuc r m) ∙ size-opposite (naturalPlaces r (suc m))
 
 -- ---- the order
 

@@ -1,22 +1,32 @@
 -- A unit's text read back is that unit, and no other text is read.
 -- Assumes nothing.
-use mathlib.Core.Path.{_≡_, refl, sym, ap, ap₂, _∙_}
-use mathlib.Core.Bool.{Bool, true, false, cond, _&&_}
-use mathlib.Core.List.{List, [], _∷_, _++_}
-use Prim.Native.Nat.{ℕ, zero, suc, _+_, _-_, _≤_, _<_}
+use mathlib.Core.Path.{_≡_, refl, ap, ap₂, _∙_}
+use mathlib.Core.Bool.{Bool, true, false, cond}
+use mathlib.Core.List.{List, [], _∷_}
+use Prim.Native.Nat.{ℕ, _+_, _-_, _≤_, _<_}
 use native.Mathlib.Omega.{arith}
 use native.Mathlib.Numerals.{add-one}
-use borrow.Author.Tests.{eqb-true}
+use borrow.Author.Tests.{eq-eqb, eqb-true}
 use lib.Dec.{eqb}
 use lib.ListN.{length, take, drop, getD, replicate, length-append}
 use lib.Seq.{drop-cons, take-append-seam}
 use Rattle.weight.specs.declared.units.WeightUnit.{WeightUnit}
 use Rattle.weight.specs.declared.units.WeightUnit.the-variants.{G, Mg, Ct, Oz, Ozt, Gn, Dwt}
 use Rattle.weight.specs.declared.units.UnitRead.{UnitRead}
-use Rattle.weight.specs.declared.units.UnitRead.the-variants.{Named, Unknown}
+use Rattle.weight.specs.declared.units.UnitRead.the-variants.{Named}
 use Rattle.weight.specs.Ascii.{space, sameText}
 use Rattle.weight.specs.Units.{unitText, unitCells, allUnits, firstNamed, unitNamed}
 use Rattle.weight.proofs.Allowed.{both-left, both-right}
+
+-- no unit is over three characters
+pub unit-short : (u : WeightUnit) → length (unitText u) ≤ 3
+unit-short G = omega arith
+unit-short Mg = omega arith
+unit-short Ct = omega arith
+unit-short Oz = omega arith
+unit-short Ozt = omega arith
+unit-short Gn = omega arith
+unit-short Dwt = omega arith
 
 -- the first cells of a unit are its text
 pub cells-text : (u : WeightUnit) → take (unitCells u .len) (unitCells u .cells) ≡ unitText u
@@ -42,6 +52,10 @@ same-is [] (y ∷ b) e = let z : _≡_ {A = ℕ} 0 1 = cc in absurd (omega arith
 same-is (x ∷ a) [] e = let z : _≡_ {A = ℕ} 0 1 = cc in absurd (omega arith)
 same-is (x ∷ a) (y ∷ b) e =
     ap₂ _∷_ (eqb-true x y (both-left (eqb x y) (sameText a b) e)) (same-is a b (both-right (eqb x y) (sameText a b) e))
+
+pub same-self : (t : List ℕ) → sameText t t ≡ true
+same-self [] = refl
+same-self (c ∷ t) = rw (eq-eqb c c refl) (same-self t)
 
 -- a unit's text is read as that unit
 pub unit-read-back : (u : WeightUnit) → unitNamed (unitText u) ≡ Named u

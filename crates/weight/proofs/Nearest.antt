@@ -1,26 +1,23 @@
 -- Rounding away from zero by one signed division: which quotient it is, by the rest.
 -- Assumes nothing.
-use mathlib.Core.Path.{_≡_, refl, sym, ap, _∙_, subst}
-use mathlib.Core.Bool.{Bool, true, false, not}
-use Prim.Native.Nat.{ℕ, zero, suc, _+_, _*_, _/_, _%_, _<_, _≤_, _^_}
-use native.Mathlib.Nat.{mod-lt, mul-le-mul-left, suc-mul, mul-left-comm, lt-of-le-of-lt, le-of-suc-le-suc, div-lt-iff-lt-mul}
+use mathlib.Core.Path.{_≡_, refl, sym, ap, _∙_}
+use mathlib.Core.Bool.{true, false, not}
+use Prim.Native.Nat.{ℕ, zero, suc, _+_, _/_, _%_, _<_, _≤_, _^_}
+use native.Mathlib.Nat.{mod-lt, lt-of-le-of-lt}
 use native.Mathlib.Omega.{arith}
 use native.Mathlib.Numerals.{add-one}
-use lib.IntN.{ℤ, pos, negsuc, negℤ, natAbs, _+ℤ_, pos-+ℤ-pos, -ℤ-one, +ℤ-one, sucℤ, predℤ}
+use lib.IntN.{ℤ, pos, negsuc, negℤ, natAbs, _+ℤ_, -ℤ-one, predℤ}
 use lib.Signed.{nonNeg, quotZ, remZ}
 use mir.Syntax.{w64}
 use mir.Val.{SFits}
-use Rattle.weight.specs.Rounding.{halfUp, roundAway}
+use Rattle.weight.specs.Rounding.{roundAway}
 use Rattle.weight.proofs.HalfUp.{half-up-stays, half-up-rises, half-up-within}
-
-pub size-neg : (m : ℕ) → natAbs (negℤ (pos m)) ≡ m
-size-neg zero = refl
-size-neg (suc m) = refl
+use Rattle.weight.proofs.Nearness.{size-opposite}
 
 -- the size of the rest is the rest of the size
 pub rest-size : (x : ℤ) (n : ℕ) → natAbs (remZ x (pos n)) ≡ natAbs x % n
 rest-size (pos m) n = refl
-rest-size (negsuc m) n = size-neg (suc m % n)
+rest-size (negsuc m) n = size-opposite (suc m % n)
 
 pub rest-below : (x : ℤ) (n : ℕ) → 0 < n → natAbs (remZ x (pos n)) < n
 rest-below x n h = rw rest-size (mod-lt (natAbs x) h)
@@ -34,7 +31,7 @@ pub stays : (x : ℤ) (n : ℕ) → 0 < n → natAbs (remZ x (pos n)) + natAbs (
 unfolding roundAway
 stays (pos m) n h k = ap pos (sym (half-up-stays m n h (omega arith)))
 stays (negsuc m) n h k =
-    ap (λ (q : ℕ). negℤ (pos q)) (sym (half-up-stays (suc m) n h (omega (arith, size-neg (suc m % n)))))
+    ap (λ (q : ℕ). negℤ (pos q)) (sym (half-up-stays (suc m) n h (omega (arith, size-opposite (suc m % n)))))
 
 pub rises : (x : ℤ) (n : ℕ) → 0 < n → n ≤ natAbs (remZ x (pos n)) + natAbs (remZ x (pos n)) → not (nonNeg x) ≡ false
     → quotZ x (pos n) +ℤ pos 1 ≡ roundAway x n
@@ -49,12 +46,12 @@ falls (pos m) n h k e = let z : _≡_ {A = ℕ} 0 1 = cc in absurd (omega arith)
 falls (negsuc m) n h k e =
     -ℤ-one (negℤ (pos (suc m / n)))
     ∙ neg-less (suc m / n)
-    ∙ ap (λ (q : ℕ). negℤ (pos q)) (sym (add-one (suc m / n)) ∙ sym (half-up-rises (suc m) n h (omega (arith, size-neg (suc m % n)))))
+    ∙ ap (λ (q : ℕ). negℤ (pos q)) (sym (add-one (suc m / n)) ∙ sym (half-up-rises (suc m) n h (omega (arith, size-opposite (suc m % n)))))
 
 away-within : (x : ℤ) (n : ℕ) → 0 < n → natAbs (roundAway x n) ≤ natAbs x
 unfolding roundAway
 away-within (pos m) n h = half-up-within m n h
-away-within (negsuc m) n h = rw size-neg (half-up-within (suc m) n h)
+away-within (negsuc m) n h = rw size-opposite (half-up-within (suc m) n h)
 
 pub size-fits : (z : ℤ) → natAbs z < 2 ^ 63 → SFits w64 z
 size-fits (pos m) h = record { sfits = h }

@@ -30,6 +30,11 @@ pub down-pos : (n : ℕ) → down (pos n) ≡ 0
 unfolding down
 down-pos n = refl
 
+-- the opposite of a natural number is as large
+pub size-opposite : (n : ℕ) → natAbs (negℤ (pos n)) ≡ n
+size-opposite zero = refl
+size-opposite (suc n) = refl
+
 -- ---- the parts of an operation's result
 
 -- a minus exchanges the parts
@@ -161,15 +166,6 @@ near-naturals n a b over under =
 pub near-refl : (n : ℕ) (a : ℤ) → Near n a a
 near-refl n a = near-of-parts n a a (omega arith) (omega arith)
 
--- nearness goes both ways
-pub near-sym : (n : ℕ) (a b : ℤ) → Near n a b → Near n b a
-near-sym n a b h = near-of-parts n b a (omega (arith, near-under n a b h)) (omega (arith, near-over n a b h))
-
--- what is near is nearer still by a larger measure
-pub near-weaken : (m n : ℕ) (a b : ℤ) → m ≤ n → Near m a b → Near n a b
-near-weaken m n a b l h =
-    near-of-parts n a b (omega (arith, near-over m a b h)) (omega (arith, near-under m a b h))
-
 -- two steps of nearness add
 pub near-triangle : (m n : ℕ) (a b c : ℤ) → Near m a b → Near n b c → Near (m + n) a c
 near-triangle m n a b c h k =
@@ -199,13 +195,3 @@ near-shift n a b c h =
     (a -ℤ c)
     (omega (arith, near-under n b c h, difference-parts a b, difference-parts a c))
     (omega (arith, near-over n b c h, difference-parts a b, difference-parts a c))
-
--- one number taken from near numbers
-pub near-less : (n : ℕ) (a b c : ℤ) → Near n a b → Near n (a -ℤ c) (b -ℤ c)
-near-less n a b c h =
-    near-of-parts
-    n
-    (a -ℤ c)
-    (b -ℤ c)
-    (omega (arith, near-over n a b h, difference-parts a c, difference-parts b c))
-    (omega (arith, near-under n a b h, difference-parts a c, difference-parts b c))

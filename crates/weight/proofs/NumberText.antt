@@ -2,18 +2,18 @@
 -- Assumes nothing.
 use mathlib.Core.Path.{_≡_, refl, _∙_, sym, ap}
 use mathlib.Core.Bool.{Bool, true, false, _&&_, and-false}
-use mathlib.Core.List.{List, [], _++_, append-nil}
-use Prim.Native.Nat.{ℕ, suc, _+_, _-_, _*_, _^_, _≤_, _<_}
+use mathlib.Core.List.{List}
+use Prim.Native.Nat.{ℕ, _+_, _-_, _*_, _^_, _≤_, _<_}
 use native.Mathlib.Nat.{add-zero, add-suc, pow-suc, pow-le-pow-right}
 use native.Mathlib.Numerals.{add-one}
 use native.Mathlib.Omega.{arith}
 use lib.Dec.{leb}
-use lib.ListN.{length, getD, take, drop, drop-of-length-le}
-use lib.Seq.{drop-cons, take-suc, append-snoc}
-use borrow.Author.Tests.{eq-eqb, ne-eqb, lt-ltb, le-ltb, le-leb, lt-leb}
-use Rattle.weight.specs.Ascii.{space, point}
-use Rattle.weight.specs.Decimals.{PointAt, TenDigits, ReadsWhole}
-use Rattle.weight.specs.Reading.{beforePoint, afterPoint, hasPoint, isDigit, allDigits, numberFrom, isNumber, afterSpaces}
+use lib.ListN.{length, getD, drop, drop-of-length-le}
+use lib.Seq.{drop-cons}
+use borrow.Author.Tests.{eq-eqb, ne-eqb, le-leb, lt-leb}
+use Rattle.weight.specs.Ascii.{space}
+use Rattle.weight.specs.Decimals.{TenDigits, ReadsWhole}
+use Rattle.weight.specs.Reading.{isDigit, allDigits, numberFrom, isNumber, afterSpaces}
 
 -- ---- the leading spaces
 
@@ -29,72 +29,6 @@ module _ (t : List ℕ) (i : ℕ) (h : i < length t) where
 -- nothing is left
 pub spaces-end : (t : List ℕ) (i : ℕ) → length t ≤ i → drop i t ≡ afterSpaces (drop i t)
 spaces-end t i h = rw (drop-of-length-le t h)
-
--- ---- the first point
-
-module _ (t : List ℕ) (i : ℕ) (h : i < length t) where
-  -- at a point
-  before-stop : getD t i 0 ≡ point → beforePoint (drop i t) ≡ []
-  before-stop e = rw (drop-cons t i 0 h, eq-eqb (getD t i 0) point e)
-
-  after-stop : getD t i 0 ≡ point → afterPoint (drop i t) ≡ drop (i + 1) t
-  after-stop e = rw (add-one, drop-cons t i 0 h, eq-eqb (getD t i 0) point e)
-
-  has-stop : getD t i 0 ≡ point → hasPoint (drop i t) ≡ true
-  has-stop e = rw (drop-cons t i 0 h, eq-eqb (getD t i 0) point e)
-
-  -- any other byte is passed
-  before-go : (getD t i 0 ≡ point → ⊥) → take i t ++ beforePoint (drop i t) ≡ take (i + 1) t ++ beforePoint (drop (i + 1) t)
-  before-go n =
-      rw (add-one, drop-cons t i 0 h, ne-eqb (getD t i 0) point n, take-suc t i 0 h)
-      (sym (append-snoc (take i t) (getD t i 0) (beforePoint (drop (suc i) t))))
-
-  after-go : (getD t i 0 ≡ point → ⊥) → afterPoint (drop i t) ≡ afterPoint (drop (i + 1) t)
-  after-go n = rw (add-one, drop-cons t i 0 h, ne-eqb (getD t i 0) point n)
-
-  has-go : (getD t i 0 ≡ point → ⊥) → hasPoint (drop i t) ≡ hasPoint (drop (i + 1) t)
-  has-go n = rw (add-one, drop-cons t i 0 h, ne-eqb (getD t i 0) point n)
-
--- the text t has its first point at i or later
-pub record NoPointBefore (t : List ℕ) (i : ℕ) : Type 0 where
-  pub in-text : i ≤ length t
-  pub before : take i t ++ beforePoint (drop i t) ≡ beforePoint t
-  pub after : afterPoint (drop i t) ≡ afterPoint t
-  pub has : hasPoint (drop i t) ≡ hasPoint t
-
--- nothing is passed
-pub no-point-yet : (t : List ℕ) → NoPointBefore t 0
-no-point-yet t = record { in-text = omega arith; before = refl; after = refl; has = refl }
-
--- any other byte
-pub no-point-here : (t : List ℕ) (i : ℕ) → i < length t → (getD t i 0 ≡ point → ⊥) → NoPointBefore t i → NoPointBefore t (i + 1)
-no-point-here t i h n p =
-    record {
-      in-text = omega arith;
-      before = sym (before-go t i h n) ∙ p .before;
-      after = sym (after-go t i h n) ∙ p .after;
-      has = sym (has-go t i h n) ∙ p .has;
-    }
-
--- the point
-pub point-here : (t : List ℕ) (i : ℕ) → i < length t → getD t i 0 ≡ point → NoPointBefore t i → PointAt t i
-point-here t i h e p =
-    record {
-      in-text = omega arith;
-      before = sym (append-nil (take i t)) ∙ rw (before-stop t i h e) at (p .before);
-      after = sym (after-stop t i h e) ∙ p .after;
-      has = lt-ltb i (length t) h ∙ sym (has-stop t i h e) ∙ p .has;
-    }
-
--- the end
-pub point-nowhere : (t : List ℕ) (i : ℕ) → length t ≤ i → NoPointBefore t i → PointAt t i
-point-nowhere t i h p =
-    record {
-      in-text = p .in-text;
-      before = sym (append-nil (take i t)) ∙ rw (drop-of-length-le t h) at (p .before);
-      after = rw (drop-of-length-le t {i = i + 1} (omega arith)) (rw (drop-of-length-le t h) at (p .after));
-      has = le-ltb i (length t) h ∙ rw (drop-of-length-le t h) at (p .has);
-    }
 
 -- ---- digits
 

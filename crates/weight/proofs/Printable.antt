@@ -1,11 +1,10 @@
 -- The printed number, by the three tests that lead to it.
 -- Assumes nothing.
-use mathlib.Core.Path.{_≡_, refl, sym, ap, _∙_}
+use mathlib.Core.Path.{_≡_}
 use mathlib.Core.Bool.{Bool, true, false}
 use Prim.Native.Nat.{_≤_, _<_}
 use borrow.Author.Tests.{le-leb, lt-leb}
-use lib.IntN.{ℤ, pos, natAbs}
-use Rattle.weight.specs.declared.printing.Printed.{Printed}
+use lib.IntN.{ℤ, natAbs}
 use Rattle.weight.specs.declared.rounding.Resolution.{Resolution}
 use Rattle.weight.specs.Rounding.{allowedResolution, netLimit, placesOf}
 use Rattle.weight.specs.Field.{fitsField}

@@ -1,30 +1,31 @@
 -- In the range of nets no product leaves a machine word.
 -- Assumes nothing.
-use mathlib.Core.Path.{_≡_, refl, sym, ap, _∙_, subst}
+use mathlib.Core.Path.{_≡_, refl}
 use mathlib.Core.Bool.{true}
-use Prim.Native.Nat.{ℕ, zero, suc, _+_, _*_, _<_, _≤_, _^_}
-use native.Mathlib.Nat.{mul-le-mul, mul-le-mul-left, mul-comm, mul-left-comm, mul-add, mul-one, le-trans, lt-of-le-of-lt, le-of-suc-le-suc, le-of-mul-le-mul-left}
+use Prim.Native.Nat.{ℕ, suc, _+_, _*_, _<_, _≤_, _^_}
+use native.Mathlib.Nat.{mul-le-mul, mul-le-mul-left, mul-comm, mul-left-comm, mul-add, mul-one, le-trans, lt-of-le-of-lt, le-of-mul-le-mul-left}
 use native.Mathlib.Omega.{arith}
 use borrow.Author.Tests.{leb-true}
 use lib.Dec.{lit<}
-use lib.IntN.{ℤ, pos, negsuc, negℤ, natAbs, _*ℤ_}
+use lib.IntN.{ℤ, pos, negsuc, natAbs, _*ℤ_}
 use mir.Syntax.{w64}
 use mir.Val.{SFits}
 use Rattle.weight.specs.declared.rounding.Resolution.{Resolution}
 use Rattle.weight.specs.Units.{nanogramsOf}
-use Rattle.weight.specs.Rounding.{allowedResolution, halfUp, roundAway, stepsOf, placesOf, inRange, netLimit}
+use Rattle.weight.specs.Rounding.{allowedResolution, halfUp, roundAway, stepsOf, inRange, netLimit}
 use Rattle.weight.proofs.Allowed.{allowed-decimals, allowed-step-limit, allowed-least-step, allowed-divisor-positive, power-limit}
 use Rattle.weight.proofs.HalfUp.{half-up-not-over}
-use Rattle.weight.proofs.Nearest.{size-neg, size-fits}
+use Rattle.weight.proofs.Nearest.{size-fits}
+use Rattle.weight.proofs.Nearness.{size-opposite}
 
 pub size-product : (z : ℤ) (n : ℕ) → natAbs (z *ℤ pos n) ≡ natAbs z * n
 size-product (pos m) n = refl
-size-product (negsuc m) n = size-neg (suc m * n)
+size-product (negsuc m) n = size-opposite (suc m * n)
 
 pub size-rounded : (z : ℤ) (n : ℕ) → natAbs (roundAway z n) ≡ halfUp (natAbs z) n
 unfolding roundAway
 size-rounded (pos m) n = refl
-size-rounded (negsuc m) n = size-neg (halfUp (suc m) n)
+size-rounded (negsuc m) n = size-opposite (halfUp (suc m) n)
 
 pub scale-limit : (d : ℕ) → d ≤ 6 → 1000 * 10 ^ d ≤ 1_000_000_000
 scale-limit d h = omega (arith, power-limit d h)

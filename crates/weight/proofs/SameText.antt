@@ -1,12 +1,11 @@
 -- Comparing two texts byte by byte from the front.
 -- Assumes nothing.
-use mathlib.Core.Path.{_≡_, refl, sym, ap, ap₂, _∙_}
-use mathlib.Core.Bool.{Bool, true, false, _&&_}
+use mathlib.Core.Path.{_≡_, refl, ap}
+use mathlib.Core.Bool.{true, false, and-false}
 use mathlib.Core.List.{List, [], _∷_}
-use Prim.Native.Nat.{ℕ, zero, suc, _+_, _≤_, _<_}
-use native.Mathlib.Omega.{arith}
+use Prim.Native.Nat.{ℕ, suc, _+_, _<_}
 use native.Mathlib.Numerals.{add-one}
-use borrow.Author.Tests.{eq-eqb, ne-eqb, eqb-true}
+use borrow.Author.Tests.{eq-eqb, ne-eqb}
 use lib.Dec.{eqb}
 use lib.ListN.{length, drop, getD}
 use lib.Seq.{drop-cons, drop-length}
@@ -17,10 +16,6 @@ unlike-lengths [] [] h = absurd (h refl)
 unlike-lengths [] (y ∷ b) h = refl
 unlike-lengths (x ∷ a) [] h = refl
 unlike-lengths (x ∷ a) (y ∷ b) h = rw (unlike-lengths a b (λ e. h (ap suc e))) (and-false (eqb x y))
-  where
-    and-false : (t : Bool) → (t && false) ≡ false
-    and-false true = refl
-    and-false false = refl
 
 module _ (a b : List ℕ) (i : ℕ) (h : i < length a) (k : i < length b) where
   pub unlike-here : (getD a i 0 ≡ getD b i 0 → ⊥) → sameText (drop i a) (drop i b) ≡ false

@@ -1,17 +1,15 @@
 -- A typed number whose product with its unit would leave a word is above every capacity.
 -- Assumes nothing.
-use mathlib.Core.Path.{_≡_, refl, sym, ap, _∙_}
-use mathlib.Core.Bool.{Bool, true, false, cond}
+use mathlib.Core.Path.{_≡_}
+use mathlib.Core.Bool.{true, false}
 use mathlib.Core.List.{List}
-use Prim.Native.Nat.{ℕ, suc, _+_, _*_, _^_, _≤_, _<_}
-use native.Mathlib.Nat.{mul-le-mul, mul-le-mul-right, le-trans, lt-of-le-of-lt, lt-of-not-le}
+use Prim.Native.Nat.{ℕ, suc, _*_, _^_, _≤_, _<_}
+use native.Mathlib.Nat.{mul-le-mul, mul-le-mul-right, lt-of-le-of-lt, lt-of-not-le}
 use native.Mathlib.Omega.{arith}
 use borrow.Author.Tests.{le-leb, lt-leb}
-use lib.Dec.{leb}
 use lib.IntN.{pos}
 use lib.ListN.{length}
 use Rattle.weight.specs.declared.units.WeightUnit.{WeightUnit}
-use Rattle.weight.specs.declared.typed.Typed.{Typed}
 use Rattle.weight.specs.declared.typed.Typed.the-variants.{Amount, TooLarge, NotTyped}
 use Rattle.weight.specs.Units.{nanogramsOf}
 use Rattle.weight.specs.Rounding.{halfUp}

@@ -2,7 +2,6 @@
 -- Assumes nothing.
 use mathlib.Core.Path.{_≡_, refl, sym, _∙_}
 use mathlib.Core.Bool.{Bool, true, false, cond, not, _&&_, and-eq-true-iff}
-use mathlib.Core.Logic.{_⊎_, ⊎-elim}
 use Prim.Native.Nat.{ℕ, zero, suc, _+_, _-_, _*_, _/_, _^_, _≤_, _<_}
 use native.Mathlib.Nat.{sub-zero, pow-suc, one-le-pow, pow-le-pow-right, div-lt-iff-lt-mul}
 use native.Mathlib.Omega.{arith}
@@ -16,7 +15,7 @@ use Rattle.weight.specs.Field.{digitsOf, decimalOf, numberText, widthOf,
 use Rattle.weight.proofs.Digits.{length-digits-small, length-digits-step, length-last-digits}
 
 -- two tests agree if each follows from the other
-tests-agree : (a b x y : ℕ) → (a ≤ b → x ≤ y) → (x ≤ y → a ≤ b) → leb a b ≡ leb x y
+pub tests-agree : (a b x y : ℕ) → (a ≤ b → x ≤ y) → (x ≤ y → a ≤ b) → leb a b ≡ leb x y
 tests-agree a b x y f g = go (leb a b) (leb x y) refl refl
   where
     go : (t u : Bool) → leb a b ≡ t → leb x y ≡ u → leb a b ≡ leb x y
@@ -26,7 +25,7 @@ tests-agree a b x y f g = go (leb a b) (leb x y) refl refl
     go false false d e = cc
 
 -- a quotient is below y exactly when the number is below y times the divisor
-div-test : (m k y : ℕ) → 0 < k → ltb (m / k) y ≡ ltb m (y * k)
+pub div-test : (m k y : ℕ) → 0 < k → ltb (m / k) y ≡ ltb m (y * k)
 div-test m k y h = tests-agree (suc (m / k)) y (suc m) (y * k) (div-lt-iff-lt-mul h .0) (div-lt-iff-lt-mul h .1)
 
 digits-some : (m : ℕ) → 1 ≤ length (digitsOf m)
@@ -139,10 +138,6 @@ fits-facts d n h = go (and-eq-true-iff (leb d 6) (ltb (natAbs n) (10 ^ (10 - poi
 pub facts-fit : (d : ℕ) (n : ℤ) → d ≤ 6 → natAbs n < 10 ^ (10 - pointWidth d - minusWidth n) → fitsField d n ≡ true
 facts-fit d n h l = rw (fits-limit d n, le-leb d 6 h) (lt-ltb (natAbs n) (10 ^ (10 - pointWidth d - minusWidth n)) l)
 
--- zero fits
-pub fits-zero : (d : ℕ) → d ≤ 6 → fitsField d (pos 0) ≡ true
-fits-zero d h = facts-fit d (pos 0) h (one-le-pow (10 - pointWidth d - 0) 10 (omega arith))
-
 -- what is not larger, and has a minus only beside a minus, fits too
 fits-narrower : (d : ℕ) (m n : ℤ) → fitsField d n ≡ true → natAbs m ≤ natAbs n → minusWidth m ≤ minusWidth n → fitsField d m ≡ true
 fits-narrower d m n f h s =
@@ -152,9 +147,6 @@ fits-narrower d m n f h s =
 minus-small : (n : ℤ) → minusWidth n ≤ 1
 minus-small (pos m) = omega arith
 minus-small (negsuc m) = omega arith
-
-pub fits-smaller : (d : ℕ) (m n : ℤ) → fitsField d n ≡ true → natAbs m ≤ natAbs n → (nonNeg m ≡ true) ⊎ (nonNeg n ≡ false) → fitsField d m ≡ true
-fits-smaller d m n f h s = fits-narrower d m n f h (⊎-elim (λ e. rw e (omega arith)) (λ e. rw e (minus-small m)) s)
 
 -- the two ends: what lies between zero and a number that fits
 pub fits-below : (d m k : ℕ) → fitsField d (pos k) ≡ true → m ≤ k → fitsField d (pos m) ≡ true

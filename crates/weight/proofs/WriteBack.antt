@@ -19,8 +19,9 @@ use Rattle.weight.specs.Field.{lastDigits, digitsOf, decimalOf, numberTe
 use Rattle.weight.specs.Reading.{beforePoint, afterPoint, hasPoint, isDigit, allDigits, numberFrom, isNumber, isDecimal, decimalsIn, valueIn}
 use Rattle.weight.specs.Reading.{afterSpaces, hasMinus, afterMinus, noLeadingZero, isWritten, signed, readNumber, readField}
 use Rattle.weight.proofs.Digits.{digits-small, digits-step, last-digits-cons}
-use Rattle.weight.proofs.DecimalText.{both, digit-range, point-between, no-point, DecimalParts, decimal-parts, number-parts}
+use Rattle.weight.proofs.DecimalText.{both, digit-range, DecimalParts, decimal-parts, number-parts}
 use Rattle.weight.proofs.ReadBack.{shifted}
+use Rattle.weight.proofs.Searching.{first-between, none-between}
 
 -- ---- digits
 
@@ -89,7 +90,7 @@ module _ (t : List ℕ) (e : isDecimal t ≡ true) (n : noLeadingZero (beforePoi
   -- without a point, and with one
   unpointed-text : hasPoint t ≡ false → decimalOf (decimalsIn t) (valueIn t) ≡ t
   unfolding decimalOf decimalsIn valueIn
-  unpointed-text bare = rw (no-point t bare .1) (whole ∙ no-point t bare .0)
+  unpointed-text bare = rw (none-between point t bare .1) (whole ∙ none-between point t bare .0)
 
   pointed-text : hasPoint t ≡ true → decimalOf (decimalsIn t) (valueIn t) ≡ t
   unfolding decimalsIn valueIn
@@ -97,7 +98,7 @@ module _ (t : List ℕ) (e : isDecimal t ≡ true) (n : noLeadingZero (beforePoi
       let v = numberFrom 0 (beforePoint t) in
       let f = afterPoint t in
       decimal-split (length f) (numberFrom v f) (parts .some has)
-      ∙ rw (rest-back f v (parts .digits), last-back f v (parts .digits), whole) (point-between t has)
+      ∙ rw (rest-back f v (parts .digits), last-back f v (parts .digits), whole) (sym (first-between point t has))
 
   -- a decimal written as a weight is, is that of its number and its decimals
   decimal-text : decimalOf (decimalsIn t) (valueIn t) ≡ t

@@ -1,19 +1,12 @@
 -- What the readers of a number's text promise each other. Where a text is none of its kind, its numbers are 0.
 -- Assumes nothing.
-use Prim.Native.Nat.{ℕ, _+_, _-_, _^_, _≤_, _<_}
+use Prim.Native.Nat.{ℕ, _-_, _^_, _≤_, _<_}
 use mathlib.Core.Path.{_≡_}
 use mathlib.Core.Bool.{Bool, cond}
 use mathlib.Core.List.{List}
 use lib.Dec.{ltb}
-use lib.ListN.{length, take, drop}
-use Rattle.weight.specs.Reading.{beforePoint, afterPoint, hasPoint, isNumber, numberFrom, isDecimal, decimalsIn, valueIn, hasMinus, afterMinus}
-
--- the first point of t is at i, or i is the length and there is none
-pub record PointAt (t : List ℕ) (i : ℕ) : Type 0 where
-  pub in-text : i ≤ length t
-  pub before : take i t ≡ beforePoint t
-  pub after : drop (i + 1) t ≡ afterPoint t
-  pub has : ltb i (length t) ≡ hasPoint t
+use lib.ListN.{length, drop}
+use Rattle.weight.specs.Reading.{isNumber, numberFrom, isDecimal, decimalsIn, valueIn, hasMinus, afterMinus}
 
 -- the digits of t, after digits that stand for start, are ten at most
 pub record TenDigits (t : List ℕ) (start : ℕ) : Type 0 where

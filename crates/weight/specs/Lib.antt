@@ -4,5 +4,6 @@ pub mod Field
 pub mod Printing
 pub mod Reading
 pub mod Rounding
+pub mod Searching
 pub mod Typed
 pub mod Units

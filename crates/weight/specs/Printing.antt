@@ -1,7 +1,8 @@
 -- Document 01, "Weights": the printed number of a net weight, and whether it fits ten characters ("The profile").
 -- Assumes nothing.
-use mathlib.Core.Bool.{Bool, false, true, cond, _&&_}
-use lib.IntN.{ℤ, pos}
+use Prim.Native.Nat.{ℕ}
+use mathlib.Core.Bool.{Bool, false, cond, _&&_}
+use lib.IntN.{ℤ, pos, negℤ}
 use Rattle.weight.specs.declared.printing.Printed.{Printed}
 use Rattle.weight.specs.declared.rounding.Resolution.{Resolution}
 use Rattle.weight.specs.Rounding.{allowedResolution, inRange, placesOf}
@@ -18,3 +19,7 @@ printedNumber r net =
 
 abbrev pub unprintedNumber : Printed
 unprintedNumber = record { fits = false; places = record { 0 = pos 0 } }
+
+-- the resolution is allowed, and the number of a net of m micrograms below zero fits ten characters
+abbrev pub fitsBelowZero : Resolution → ℕ → Bool
+fitsBelowZero r m = allowedResolution r && fitsField (r .decimals) (placesOf r (negℤ (pos m)))

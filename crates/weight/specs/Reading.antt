@@ -10,20 +10,18 @@ use lib.ListN.{length, getD, drop}
 use Rattle.weight.specs.declared.reading.FieldRead.{FieldRead}
 use Rattle.weight.specs.declared.reading.FieldRead.the-variants.{Number, NoNumber}
 use Rattle.weight.specs.Ascii.{space, minus, point, digit}
+use Rattle.weight.specs.Searching.{beforeFirst, afterFirst, hasByte}
 
 -- the bytes before the first point, all of them where there is none
 abbrev pub beforePoint : List ℕ → List ℕ
-beforePoint [] = []
-beforePoint (c ∷ t) = cond (eqb c point) [] (c ∷ beforePoint t)
+beforePoint t = beforeFirst point t
 
 -- the bytes after the first point
 abbrev pub afterPoint : List ℕ → List ℕ
-afterPoint [] = []
-afterPoint (c ∷ t) = cond (eqb c point) t (afterPoint t)
+afterPoint t = afterFirst point t
 
 abbrev pub hasPoint : List ℕ → Bool
-hasPoint [] = false
-hasPoint (c ∷ t) = eqb c point || hasPoint t
+hasPoint t = hasByte point t
 
 abbrev pub isDigit : ℕ → Bool
 isDigit c = leb (digit 0) c && leb c (digit 9)

@@ -1,15 +1,17 @@
 // The printed number of a net weight.
 ghost use mathlib.Core.Path.{_≡_};
-ghost use Rattle.weight.specs.Printing.{printedNumber, unprintedNumber};
+ghost use Rattle.weight.specs.Printing.{printedNumber, unprintedNumber, fitsBelowZero};
 use crate::field::fits;
-use crate::integer::magnitude;
 use crate::rounding::LastPlaces;
 use crate::rounding::Micrograms;
 use crate::rounding::Resolution;
+use crate::rounding::divisor_of;
 use crate::rounding::is_allowed;
-use crate::rounding::micrograms_in;
 use crate::rounding::places_of;
+use crate::rounding::scale_of;
+use crate::rounding::size_of;
 use crate::rounding::steps_of;
+use crate::units::nanograms_of;
 
 // Whether a net is printed in ten characters, and its number.
 pub struct Printed {
@@ -19,6 +21,9 @@ pub struct Printed {
 
 // More micrograms than a load, a zero and a tare can give.
 const NET_LIMIT: u64 = 5_000_000_000;
+
+// Twice 10^8: beside a minus and a point ten characters hold eight digits.
+const TWICE_PLACES_LIMIT: u64 = 200_000_000;
 
 fn unprinted() -> Printed
     ensures { λ r. ⌜ r ≡ unprintedNumber ⌝ }
@@ -35,7 +40,7 @@ pub fn printed_number(resolution: Resolution, net: Micrograms) -> Printed
     if !is_allowed(resolution) {
         return unprinted();
     }
-    if NET_LIMIT < magnitude(micrograms_in(net)) {
+    if NET_LIMIT < size_of(net) {
         return unprinted();
     }
     let places = places_of(resolution, steps_of(resolution, net));
@@ -43,4 +48,17 @@ pub fn printed_number(resolution: Resolution, net: Micrograms) -> Printed
         return Printed { fits: true, places };
     }
     unprinted()
+}
+
+// Whether a net of `size` micrograms below zero fits ten characters. Its number is below 10^8 exactly when its exact steps and half
+// a step more are below 10^8 / step, so nothing is divided. Without decimals nine digits fit, but 2^32 micrograms never need them.
+pub fn fits_below_zero(resolution: Resolution, size: u32) -> bool
+    ensures { λ r. ⌜ r ≡ fitsBelowZero resolution size ⌝ }
+{
+    if !is_allowed(resolution) {
+        return false;
+    }
+    let unit = resolution.unit;
+    let scaled = size as u64 * scale_of(resolution.decimals);
+    scaled + scaled + divisor_of(resolution) < nanograms_of(unit).0 * TWICE_PLACES_LIMIT
 }

@@ -2,11 +2,12 @@
 ghost use mathlib.Core.Path.{_≡_};
 ghost use Prim.Native.Nat.{_<_, _≤_};
 ghost use lib.ListN.{length, drop};
-ghost use Rattle.weight.specs.Decimals.{PointAt, TenDigits, ReadsWhole, ReadsDecimal, MinusAt};
+ghost use Rattle.weight.specs.Decimals.{TenDigits, ReadsWhole, ReadsDecimal, MinusAt};
 ghost use Rattle.weight.specs.Reading.{afterSpaces, beforePoint, noLeadingZero, signed, readNumber, readField};
 use crate::integer::negate;
 use crate::integer::of_natural;
 use crate::rounding::LastPlaces;
+use crate::text::first_at;
 
 // What ten characters are read as: the decimals and the number.
 pub enum FieldRead {
@@ -27,6 +28,8 @@ pub struct Decimal {
     pub value: u64,
 }
 
+const POINT: u8 = 46;
+
 const FIELD_WIDTH: usize = 10;
 
 const MOST_DECIMALS: usize = 6;
@@ -39,20 +42,6 @@ fn space_count(text: &[u8]) -> usize
     let mut i = 0;
     while i < text.len() {
         if text[i] != b' ' {
-            return i;
-        }
-        i += 1;
-    }
-    i
-}
-
-// Where the first point is; the length where there is none.
-fn point_at(text: &[u8]) -> usize
-    ensures { λ r. ⌜ PointAt (now (text .entry)) r ⌝ }
-{
-    let mut i = 0;
-    while i < text.len() {
-        if text[i] == b'.' {
             return i;
         }
         i += 1;
@@ -98,7 +87,7 @@ pub fn read_decimal(text: &[u8]) -> Decimal
     requires { ⌜ length (now text) ≤ 10 ⌝ }
     ensures { λ r. ⌜ ReadsDecimal (now (text .entry)) (r .good) (r .decimals) (r .value) ⌝ }
 {
-    let point = point_at(text);
+    let point = first_at(text, POINT);
     let whole = read_whole(&text[..point], 0);
     if point < text.len() {
         let start = point + 1;
@@ -143,11 +132,10 @@ fn minus_count(text: &[u8]) -> usize
 fn no_leading_zero(text: &[u8]) -> bool
     ensures { λ r. ⌜ r ≡ noLeadingZero (beforePoint (now (text .entry))) ⌝ }
 {
-    let point = point_at(text);
-    if point <= 1 {
+    if text.len() < 2 {
         return true;
     }
-    text[0] != b'0'
+    (text[0] != b'0') | (text[1] == POINT)
 }
 
 // A number with its sign.

@@ -52,7 +52,7 @@ fn nearest(x: Integer, by: u64) -> Integer
 }
 
 // The nanograms of a display step, times 10^d: what a rounding divides by.
-fn divisor_of(resolution: Resolution) -> u64
+pub fn divisor_of(resolution: Resolution) -> u64
     ensures { λ r. ⌜ r ≡ resolution .step * nanogramsOf (resolution .unit) ⌝ }
 {
     let unit = resolution.unit;
@@ -80,10 +80,17 @@ pub fn is_allowed(resolution: Resolution) -> bool
 }
 
 // The only conversions between the counts.
-pub fn micrograms_in(net: Micrograms) -> Integer
+fn micrograms_in(net: Micrograms) -> Integer
     ensures { λ r. ⌜ r .0 ≡ net .0 ⌝ }
 {
     Integer(net.0)
+}
+
+// How far from zero an amount is.
+pub fn size_of(amount: Micrograms) -> u64
+    ensures { λ r. ⌜ r ≡ natAbs (amount .0) ⌝ }
+{
+    magnitude(micrograms_in(amount))
 }
 
 fn display_steps(count: Integer) -> DisplaySteps

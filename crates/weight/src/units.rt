@@ -90,7 +90,8 @@ const UNITS: [WeightUnit; 7] = [
     WeightUnit::Dwt,
 ];
 
-fn is_unit(text: &[u8], unit: WeightUnit) -> bool
+// Whether a text is the unit's.
+pub fn is_unit(text: &[u8], unit: WeightUnit) -> bool
     ensures { λ r. ⌜ r ≡ sameText (now (text .entry)) (unitText unit) ⌝ }
 {
     let written = unit_text(unit);

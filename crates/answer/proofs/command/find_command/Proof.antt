@@ -1,63 +1,41 @@
--- `find_command` meets its contract: the loop has passed the names before `command`.
+-- `answer::command::find_command` meets its contract.
 -- Assumes nothing.
-use mathlib.Core.Path.{_≡_, refl, sym, ap, _∙_}
-use Prim.Native.Nat.{ℕ, _≤_, _+_, _-_}
-use native.Mathlib.Omega.{arith}
+use mathlib.Core.Path.{_≡_, sym, ap, _∙_}
 use borrow.Author.Needs.{needs}
-use lib.ListN.{drop}
-use Rattle.answer.specs.Commands.{names, placeIn, placeOf}
-use Rattle.answer.proofs.Names.{place-here, place-later}
+use Rattle.answer.specs.Commands.{names, allEnds, endsOf, placeAmong}
+use Rattle.answer.proofs.Names.{own-name, other-word}
 use Rattle.answer.proofs.command.find_command.Statement.{statement}
 use Rattle.answer.proofs.command.find_command.Tie as tie
 
-abbrev Inv-loop : tie.InvT-loop
-Inv-loop word command₀ command = (command ≤ 18) × (placeOf word ≡ command + placeIn (drop command names) word)
+ends-of-requires : tie.Need-ends-of-requires
+ends-of-requires c κs = search needs
 
-abbrev μ-loop : tie.MeasureT-loop
-μ-loop word command₀ command = 18 - command
+place-of-ends-requires : tie.Need-place-of-ends-requires
+place-of-ends-requires c κs = search needs
 
-loop-holds : tie.Need-loop-holds Inv-loop μ-loop
-unfolding placeOf
-loop-holds c = (search needs, omega arith)
-
-is-name-requires : tie.Need-is-name-requires Inv-loop μ-loop
+is-name-requires : tie.Need-is-name-requires
 is-name-requires c κs = search needs
 
-returns : tie.Need-returns Inv-loop μ-loop
+-- the place that the ends give
+place-at : (c : tie.After-place-of-ends) → c .place-of-ends .result ≡ placeAmong (allEnds names) (endsOf (c .before .before .before .args .word .now))
+place-at c = c .place-of-ends .ensures ∙ ap (placeAmong (allEnds names)) (c .before .ends-of .ensures)
+
+returns : tie.Need-returns
 returns c =
-    let at = c .before .before .before .loop in
-    omega (arith, at .inv .1, place-here (c .before .before .before .before .before .args .word .now) names (at .command) (search needs) (sym (c .before .is-name .ensures) ∙ c .if1 .taken))
+    own-name (c .before .before .before .before .before .args .word .now) (c .before .before .place-of-ends .result) (place-at (c .before .before))
+    (sym (c .before .is-name .ensures) ∙ c .if1 .taken)
 
-add-command : tie.Need-add-command Inv-loop μ-loop
-add-command c = search needs
-
-loop-less : tie.Need-loop-less Inv-loop μ-loop
-loop-less c = search needs
-
-loop-again : tie.Need-loop-again Inv-loop μ-loop
-loop-again c =
-    let at = c .before .before .before .loop in (
-      search needs,
-      omega (arith, at .inv .1, place-later (c .before .before .before .before .before .args .word .now) names (at .command) (search needs) (sym (c .before .is-name .ensures) ∙ c .if1 .left)),
-    )
-
-returns-2 : tie.Need-returns-2 Inv-loop μ-loop
-unfolding placeIn
+returns-2 : tie.Need-returns-2
 returns-2 c =
-    let at = c .before .loop in
-    let done : at .command ≡ 18 = omega arith in
-    omega (arith, at .inv .1 ∙ ap (λ (i : ℕ). i + placeIn (drop i names) (c .before .before .before .args .word .now)) done)
+    other-word (c .before .before .before .before .before .args .word .now) (c .before .before .place-of-ends .result) (place-at (c .before .before))
+    (sym (c .before .is-name .ensures) ∙ c .if1 .left)
 
 pub find-command-spec : {M : Type 1} → statement M
 find-command-spec =
     tie.close
     (tie.spec
-    Inv-loop
-    μ-loop
-    loop-holds
+    ends-of-requires
+    place-of-ends-requires
     is-name-requires
     returns
-    add-command
-    loop-less
-    loop-again
     returns-2)

@@ -1,3 +1,5 @@
+-- `answer::command::is_name` meets its contract.
+-- Assumes nothing.
 use mathlib.Core.Path.{sym}
 use lib.Seq.{length-take-le}
 use Rattle.answer.proofs.Names.{cells-enough, cells-count, other-length, whole-word}
@@ -10,7 +12,7 @@ name-of-requires : tie.Need-name-of-requires
 name-of-requires c κs = search needs
 
 returns : tie.Need-returns
-returns c = other-length (c .before .before .before .before .args .word .now) (c .before .before .name-of .result) (c .before .before .before .before .args .command) (c .before .before .name-of .ensures) (c .if1 .taken)
+returns c = other-length (c .before .before .before .before .args .word .now) (c .before .before .name-of .result) (c .before .before .before .before .args .command) (c .before .before .name-of .ensures) (λ e. omega (arith, e, c .if1 .taken))
 
 slice-aggregate-same-text : tie.Need-slice-aggregate-same-text
 slice-aggregate-same-text c = sym (length-take-le (c .before .before .before .name-of .result .len) (c .before .before .before .before .before .args .word .now) (omega arith))
@@ -25,7 +27,7 @@ same-text-requires : tie.Need-same-text-requires
 same-text-requires c κs = search needs
 
 returns-2 : tie.Need-returns-2
-returns-2 c = whole-word (c .before .before .before .before .before .before .before .args .word .now) (c .before .before .before .before .before .name-of .result) (c .before .before .before .before .before .before .before .args .command) (c .before .before .before .before .before .name-of .ensures) (c .same-text .result) (c .before .before .before .if1 .left) (c .same-text .ensures)
+returns-2 c = whole-word (c .before .before .before .before .before .before .before .args .word .now) (c .before .before .before .before .before .name-of .result) (c .before .before .before .before .before .before .before .args .command) (c .before .before .before .before .before .name-of .ensures) (c .same-text .result) (omega (arith, c .before .before .before .if1 .left)) (c .same-text .ensures)
 
 pub is-name-spec : {M : Type 1} → statement M
 is-name-spec =

@@ -1,3 +1,5 @@
+-- `answer::command::level_of` meets its contract.
+-- Assumes nothing.
 use borrow.Author.Tests.{lt-ltb, le-ltb}
 use Rattle.answer.proofs.command.level_of.Statement.{statement}
 use Rattle.answer.proofs.command.level_of.Tie as tie

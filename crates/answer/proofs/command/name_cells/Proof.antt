@@ -1,6 +1,7 @@
 -- `name_cells` meets its contract: the match has the table of the names.
 -- Assumes nothing.
-use Rattle.answer.proofs.Names.{none-of, no-name}
+use Rattle.weight.proofs.Matching.{none-of}
+use Rattle.answer.proofs.Names.{no-name}
 use Rattle.answer.proofs.command.name_cells.Statement.{statement}
 use Rattle.answer.proofs.command.name_cells.Tie as tie
 

@@ -1,6 +1,7 @@
 -- `name_length` meets its contract: the match has the lengths of the names.
 -- Assumes nothing.
-use Rattle.answer.proofs.Names.{none-of, no-name-length}
+use Rattle.weight.proofs.Matching.{none-of}
+use Rattle.answer.proofs.Names.{no-name-length}
 use borrow.Author.Needs.{needs}
 use Rattle.answer.proofs.command.name_length.Statement.{statement}
 use Rattle.answer.proofs.command.name_length.Tie as tie

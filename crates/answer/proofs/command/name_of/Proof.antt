@@ -1,3 +1,5 @@
+-- `answer::command::name_of` meets its contract.
+-- Assumes nothing.
 use Rattle.answer.specs.Commands.{nameCells}
 use Rattle.answer.proofs.Names.{name-made}
 use borrow.Author.Needs.{needs}

@@ -1,3 +1,5 @@
+-- `answer::emit::emit_answer` meets its contract.
+-- Assumes nothing.
 use Rattle.answer.specs.Lines.{lineOf}
 use Rattle.answer.proofs.Rooms.{no-room, with-room}
 use borrow.Author.Needs.{needs}

@@ -1,3 +1,5 @@
+-- `answer::emit::error_byte` meets its contract.
+-- Assumes nothing.
 use borrow.Author.Needs.{needs}
 use Rattle.answer.proofs.emit.error_byte.Statement.{statement}
 use Rattle.answer.proofs.emit.error_byte.Tie as tie

@@ -1,4 +1,6 @@
-use mathlib.Core.Path.{_≡_, sym, ap}
+-- `answer::emit::line_length` meets its contract.
+-- Assumes nothing.
+use mathlib.Core.Path.{sym, ap}
 use lib.ListN.{length}
 use Rattle.answer.specs.declared.answer.Answer.{Answer}
 use Rattle.answer.specs.Lines.{lineOf}

@@ -1,3 +1,5 @@
+-- `answer::emit::listed_status` meets its contract.
+-- Assumes nothing.
 use Rattle.answer.proofs.emit.listed_status.Statement.{statement}
 use Rattle.answer.proofs.emit.listed_status.Tie as tie
 

@@ -1,10 +1,10 @@
 -- `put` meets its contract: the loop has stored the first i bytes of the piece.
 -- Assumes nothing.
-use mathlib.Core.Path.{_≡_, refl, _∙_, ap}
-use Prim.Native.Nat.{ℕ, _+_, _-_, _≤_}
+use mathlib.Core.Path.{_≡_, refl, _∙_}
+use Prim.Native.Nat.{_-_, _≤_}
 use native.Mathlib.Omega.{arith}
-use lib.ListN.{length, take, getD, set, length-set}
-use lib.Seq.{sets, length-sets}
+use lib.ListN.{length, take, length-set}
+use lib.Seq.{sets}
 use Rattle.answer.proofs.Laying.{sets-more, sets-all}
 use borrow.Author.Needs.{needs}
 use Rattle.answer.proofs.emit.put.Statement.{statement}

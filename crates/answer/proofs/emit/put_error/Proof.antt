@@ -1,7 +1,5 @@
-use mathlib.Core.Path.{_≡_}
-use Prim.Native.Nat.{ℕ, _+_, _≤_}
-use mathlib.Core.List.{List, [], _∷_}
-use lib.ListN.{length}
+-- `answer::emit::put_error` meets its contract.
+-- Assumes nothing.
 use Rattle.answer.specs.Lines.{errorText}
 use Rattle.answer.proofs.Laying.{laid-as, room-as}
 use Rattle.answer.proofs.Lines.{error-pieces}

@@ -1,6 +1,6 @@
-use Prim.Native.Nat.{_+_, _≤_}
+-- `answer::emit::put_head` meets its contract.
+-- Assumes nothing.
 use mathlib.Core.List.{[], _∷_}
-use lib.ListN.{length}
 use Rattle.answer.specs.Commands.{nameOf}
 use Rattle.answer.specs.Lines.{headText}
 use Rattle.answer.proofs.Laying.{laid-laid, room-first, room-next}

@@ -3,7 +3,6 @@
 use mathlib.Core.Path.{_≡_, refl}
 use Prim.Native.Nat.{_≤_, _-_}
 use native.Mathlib.Omega.{arith}
-use native.Mathlib.Nat.{add-zero}
 use lib.ListN.{length}
 use Rattle.answer.proofs.Laying.{Laid}
 use Rattle.answer.proofs.Listing.{listedTo, line-room, line-more, line-last}

@@ -1,9 +1,12 @@
+-- `answer::emit::put_listed` meets its contract.
+-- Assumes nothing.
 use Prim.Native.Nat.{_+_}
 use mathlib.Core.List.{[], _∷_}
 use Rattle.answer.specs.Commands.{nameOf}
 use Rattle.answer.specs.Lines.{listedLine}
 use Rattle.answer.proofs.Laying.{laid-3, room-1-of-3, room-2-of-3, room-3-of-3}
-use Rattle.answer.proofs.Lines.{listed-pieces, level-small}
+use Rattle.answer.proofs.Lines.{listed-pieces}
+use Rattle.answer.proofs.Names.{level-small}
 use borrow.Author.Needs.{needs}
 use native.Mathlib.Omega.{arith}
 use Rattle.answer.proofs.emit.put_listed.Statement.{statement}

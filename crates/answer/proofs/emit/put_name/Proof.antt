@@ -1,3 +1,5 @@
+-- `answer::emit::put_name` meets its contract.
+-- Assumes nothing.
 use Rattle.answer.proofs.Names.{cells-name, cells-enough, cells-count}
 use borrow.Author.Needs.{needs}
 use Rattle.answer.proofs.emit.put_name.Statement.{statement}

@@ -1,3 +1,5 @@
+-- `answer::emit::put_number` meets its contract.
+-- Assumes nothing.
 use mathlib.Core.List.{[], _∷_}
 use Rattle.weight.specs.Units.{unitText}
 use Rattle.answer.specs.Lines.{weightText}

@@ -1,3 +1,5 @@
+-- `answer::emit::put_plain` meets its contract.
+-- Assumes nothing.
 use mathlib.Core.Path.{refl}
 use mathlib.Core.List.{_++_}
 use Rattle.answer.specs.Lines.{headText, lineEnd}

@@ -1,3 +1,5 @@
+-- `answer::emit::put_text` meets its contract.
+-- Assumes nothing.
 use mathlib.Core.List.{[], _∷_, _++_}
 use Rattle.weight.specs.Ascii.{ascii}
 use Rattle.answer.specs.Commands.{nameOf}

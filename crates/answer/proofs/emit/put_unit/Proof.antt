@@ -1,3 +1,5 @@
+-- `answer::emit::put_unit` meets its contract.
+-- Assumes nothing.
 use Rattle.answer.proofs.Units.{cells-unit, cells-enough, cells-count}
 use borrow.Author.Needs.{needs}
 use Rattle.answer.proofs.emit.put_unit.Statement.{statement}

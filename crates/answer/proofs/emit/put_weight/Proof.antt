@@ -1,3 +1,5 @@
+-- `answer::emit::put_weight` meets its contract.
+-- Assumes nothing.
 use mathlib.Core.Path.{refl}
 use mathlib.Core.List.{[], _∷_, _++_}
 use Rattle.weight.specs.Ascii.{ascii}

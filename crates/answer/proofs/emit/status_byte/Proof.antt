@@ -1,3 +1,5 @@
+-- `answer::emit::status_byte` meets its contract.
+-- Assumes nothing.
 use borrow.Author.Needs.{needs}
 use Rattle.answer.proofs.emit.status_byte.Statement.{statement}
 use Rattle.answer.proofs.emit.status_byte.Tie as tie

@@ -1,3 +1,5 @@
+-- `answer::emit::unit_length` meets its contract.
+-- Assumes nothing.
 use Rattle.answer.proofs.Units.{cells-length}
 use borrow.Author.Needs.{needs}
 use Rattle.answer.proofs.emit.unit_length.Statement.{statement}

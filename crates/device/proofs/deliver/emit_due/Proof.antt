@@ -1,6 +1,5 @@
-use mathlib.Core.Path.{_≡_, sym, _∙_}
+use mathlib.Core.Path.{sym, _∙_}
 use borrow.Author.Needs.{needs}
-use borrow.Author.Tests.{leb-true}
 use Rattle.device.proofs.Delivery.{bytes-model, bytes-software, bytes-serial, bytes-identity, bytes-plain}
 use Rattle.model.proofs.ProfileFacts.{allowed-profile}
 use Rattle.device.proofs.Delivery.{short20, short40}

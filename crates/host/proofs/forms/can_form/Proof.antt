@@ -1,12 +1,8 @@
+-- `host::forms::can_form` meets its contract.
+-- Assumes nothing.
 use borrow.Author.Needs.{needs}
 use Rattle.host.proofs.forms.can_form.Statement.{statement}
 use Rattle.host.proofs.forms.can_form.Tie as tie
-use Rattle.host.proofs.forms.can_form.Reads as reads
-use Rattle.host.proofs.forms.can_form.Lts as lts
-use Rattle.host.proofs.forms.number_form.Reads as number-form-reads
-use Rattle.host.proofs.forms.plain_form.Reads as plain-form-reads
-use Rattle.host.proofs.forms.text_form.Reads as text-form-reads
-use Rattle.host.proofs.forms.weight_form.Reads as weight-form-reads
 
 enum-told : tie.Need-enum-told
 enum-told c = search needs

@@ -1,3 +1,5 @@
+-- `host::forms::plain_form` meets its contract.
+-- Assumes nothing.
 use borrow.Author.Needs.{needs}
 use Rattle.host.proofs.forms.plain_form.Statement.{statement}
 use Rattle.host.proofs.forms.plain_form.Tie as tie

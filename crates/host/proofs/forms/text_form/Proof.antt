@@ -1,9 +1,8 @@
+-- `host::forms::text_form` meets its contract.
+-- Assumes nothing.
 use borrow.Author.Needs.{needs}
 use Rattle.host.proofs.forms.text_form.Statement.{statement}
 use Rattle.host.proofs.forms.text_form.Tie as tie
-use Rattle.host.proofs.forms.text_form.Reads as reads
-use Rattle.host.proofs.forms.text_form.Lts as lts
-use Rattle.host.proofs.scan.is_printable.Reads as is-printable-reads
 
 is-printable-requires : tie.Need-is-printable-requires
 is-printable-requires c κs = search needs

@@ -1,8 +1,8 @@
+-- `host::forms::weight_form` meets its contract.
+-- Assumes nothing.
 use borrow.Author.Needs.{needs}
 use Rattle.host.proofs.forms.weight_form.Statement.{statement}
 use Rattle.host.proofs.forms.weight_form.Tie as tie
-use Rattle.host.proofs.forms.weight_form.Reads as reads
-use Rattle.host.proofs.forms.weight_form.Lts as lts
 
 enum-told : tie.Need-enum-told
 enum-told c = search needs

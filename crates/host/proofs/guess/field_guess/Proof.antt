@@ -1,3 +1,5 @@
+-- `host::guess::field_guess` meets its contract.
+-- Assumes nothing.
 use borrow.Author.Needs.{needs}
 use Rattle.host.proofs.Branches.{field-is}
 use Rattle.host.proofs.guess.field_guess.Statement.{statement}

@@ -1,10 +1,9 @@
+-- `host::guess::guess_answer` meets its contract.
+-- Assumes nothing.
 use borrow.Author.Needs.{needs}
 use Rattle.host.proofs.Branches.{front-count, front-place, spaced-branch, unspaced-branch}
 use Rattle.host.proofs.guess.guess_answer.Statement.{statement}
 use Rattle.host.proofs.guess.guess_answer.Tie as tie
-
-name-length-requires : tie.Need-name-length-requires
-name-length-requires c κs = search needs
 
 slice-aggregate-find-command : tie.Need-slice-aggregate-find-command
 slice-aggregate-find-command c = search (needs, front-count)
@@ -31,7 +30,6 @@ pub guess-answer-spec : {M : Type 1} → statement M
 guess-answer-spec =
     tie.close
     (tie.spec
-    name-length-requires
     slice-aggregate-find-command
     find-command-requires
     named-guess-requires

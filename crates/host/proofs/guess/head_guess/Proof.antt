@@ -1,3 +1,5 @@
+-- `host::guess::head_guess` meets its contract.
+-- Assumes nothing.
 use borrow.Author.Needs.{needs}
 use Rattle.host.proofs.Branches.{head-is}
 use Rattle.host.proofs.guess.head_guess.Statement.{statement}

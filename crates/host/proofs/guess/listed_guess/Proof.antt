@@ -1,3 +1,5 @@
+-- `host::guess::listed_guess` meets its contract.
+-- Assumes nothing.
 use borrow.Author.Needs.{needs}
 use Rattle.host.proofs.Branches.{listed-is}
 use Rattle.host.proofs.guess.listed_guess.Statement.{statement}

@@ -1,3 +1,5 @@
+-- `host::guess::named_guess` meets its contract.
+-- Assumes nothing.
 use borrow.Author.Needs.{needs}
 use Rattle.host.proofs.Branches.{plain-branch, listed-branch, versions-branch, text-branch, weight-branch}
 use Rattle.host.proofs.guess.named_guess.Statement.{statement}

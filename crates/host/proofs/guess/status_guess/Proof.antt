@@ -1,3 +1,5 @@
+-- `host::guess::status_guess` meets its contract.
+-- Assumes nothing.
 use borrow.Author.Tests.{ne-eqb}
 use Rattle.host.proofs.guess.status_guess.Statement.{statement}
 use Rattle.host.proofs.guess.status_guess.Tie as tie

@@ -1,3 +1,5 @@
+-- `host::guess::unit_guess` meets its contract.
+-- Assumes nothing.
 use borrow.Author.Needs.{needs}
 use Rattle.host.proofs.Branches.{unit-is}
 use Rattle.host.proofs.guess.unit_guess.Statement.{statement}

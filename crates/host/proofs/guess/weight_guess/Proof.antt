@@ -1,3 +1,5 @@
+-- `host::guess::weight_guess` meets its contract.
+-- Assumes nothing.
 use borrow.Author.Needs.{needs}
 use Rattle.host.proofs.guess.weight_guess.Statement.{statement}
 use Rattle.host.proofs.guess.weight_guess.Tie as tie

@@ -1,10 +1,24 @@
+-- `host::reader::read_line` meets its contract.
+-- Assumes nothing.
 use borrow.Author.Needs.{needs}
-use Rattle.host.proofs.Again.{too-long, read-branch, refused-branch}
+use Rattle.host.proofs.Outcomes.{too-long, read-branch, unformed-branch, unframed-branch}
 use Rattle.host.proofs.reader.read_line.Statement.{statement}
 use Rattle.host.proofs.reader.read_line.Tie as tie
 
 returns : tie.Need-returns
 returns c = search (needs, too-long)
+
+name-length-requires : tie.Need-name-length-requires
+name-length-requires c κs = search needs
+
+add-if2 : tie.Need-add-if2
+add-if2 c = search needs
+
+read-plain-requires : tie.Need-read-plain-requires
+read-plain-requires c κs = search needs
+
+returns-2 : tie.Need-returns-2
+returns-2 c = search needs
 
 guess-answer-requires : tie.Need-guess-answer-requires
 guess-answer-requires c κs = search needs
@@ -12,26 +26,38 @@ guess-answer-requires c κs = search needs
 text-place-requires : tie.Need-text-place-requires
 text-place-requires c κs = search needs
 
+is-framed-requires : tie.Need-is-framed-requires
+is-framed-requires c κs = search needs
+
 part-requires : tie.Need-part-requires
 part-requires c κs = search needs
 
-is-confirmed-requires : tie.Need-is-confirmed-requires
-is-confirmed-requires c κs = search needs
-
-returns-2 : tie.Need-returns-2
-returns-2 c = search (needs, read-branch)
+can-form-requires : tie.Need-can-form-requires
+can-form-requires c κs = search needs
 
 returns-3 : tie.Need-returns-3
-returns-3 c = search (needs, refused-branch)
+returns-3 c = search (needs, read-branch)
+
+returns-4 : tie.Need-returns-4
+returns-4 c = search (needs, unformed-branch)
+
+returns-5 : tie.Need-returns-5
+returns-5 c = search (needs, unframed-branch)
 
 pub read-line-spec : {M : Type 1} → statement M
 read-line-spec =
     tie.close
     (tie.spec
     returns
+    name-length-requires
+    add-if2
+    read-plain-requires
+    returns-2
     guess-answer-requires
     text-place-requires
+    is-framed-requires
     part-requires
-    is-confirmed-requires
-    returns-2
-    returns-3)
+    can-form-requires
+    returns-3
+    returns-4
+    returns-5)

@@ -1,3 +1,5 @@
+-- `host::reader::text_place` meets its contract.
+-- Assumes nothing.
 use borrow.Author.Needs.{needs}
 use Rattle.host.proofs.reader.text_place.Statement.{statement}
 use Rattle.host.proofs.reader.text_place.Tie as tie

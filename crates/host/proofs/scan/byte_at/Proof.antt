@@ -1,9 +1,9 @@
+-- `host::scan::byte_at` meets its contract.
+-- Assumes nothing.
 use borrow.Author.Needs.{needs}
 use Rattle.host.proofs.Scanning.{byte-past}
 use Rattle.host.proofs.scan.byte_at.Statement.{statement}
 use Rattle.host.proofs.scan.byte_at.Tie as tie
-use Rattle.host.proofs.scan.byte_at.Reads as reads
-use Rattle.host.proofs.scan.byte_at.Lts as lts
 
 shared-slice-read-result : tie.Need-shared-slice-read-result
 shared-slice-read-result c = search needs

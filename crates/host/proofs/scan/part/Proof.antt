@@ -1,9 +1,9 @@
+-- `host::scan::part` meets its contract.
+-- Assumes nothing.
 use borrow.Author.Needs.{needs}
 use Rattle.host.proofs.Scanning.{part-none, part-rest, part-whole}
 use Rattle.host.proofs.scan.part.Statement.{statement}
 use Rattle.host.proofs.scan.part.Tie as tie
-use Rattle.host.proofs.scan.part.Reads as reads
-use Rattle.host.proofs.scan.part.Lts as lts
 
 sub-result : tie.Need-sub-result
 sub-result c = search needs

@@ -1,5 +1,7 @@
+-- `host::writer::write_line` meets its contract.
+-- Assumes nothing.
 use borrow.Author.Needs.{needs}
-use Rattle.host.proofs.Again.{formed-buffer, unformed-buffer, written-result, no-room-result, unformed-result}
+use Rattle.host.proofs.Outcomes.{formed-buffer, unformed-buffer, written-result, no-room-result, unformed-result}
 use Rattle.host.proofs.writer.write_line.Statement.{statement}
 use Rattle.host.proofs.writer.write_line.Tie as tie
 

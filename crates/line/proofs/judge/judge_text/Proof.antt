@@ -5,8 +5,8 @@ use Rattle.line.proofs.Rows.{name-cells, row-1, row-2, row-3, row-4, ro
 use Rattle.line.proofs.judge.judge_text.Statement.{statement}
 use Rattle.line.proofs.judge.judge_text.Tie as tie
 
-space-at-requires : tie.Need-space-at-requires
-space-at-requires c κs = search needs
+first-at-requires : tie.Need-first-at-requires
+first-at-requires c κs = search needs
 
 slice-aggregate-find-command : tie.Need-slice-aggregate-find-command
 slice-aggregate-find-command c = search (needs, name-cells)
@@ -45,7 +45,7 @@ pub judge-text-spec : {M : Type 1} → statement M
 judge-text-spec =
     tie.close
     (tie.spec
-    space-at-requires
+    first-at-requires
     slice-aggregate-find-command
     find-command-requires
     has-control-requires

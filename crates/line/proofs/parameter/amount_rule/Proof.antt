@@ -1,7 +1,7 @@
 -- `line::parameter::amount_rule` meets its contract.
 -- Assumes nothing.
 use borrow.Author.Needs.{needs}
-use Rattle.line.proofs.Parameters.{not-below-zero, within-capacity, above-capacity, too-large, not-typed}
+use Rattle.line.proofs.Parameters.{within-capacity, above-capacity, too-large, not-typed}
 use Rattle.line.proofs.parameter.amount_rule.Statement.{statement}
 use Rattle.line.proofs.parameter.amount_rule.Tie as tie
 
@@ -9,7 +9,7 @@ enum-known-typed : tie.Need-enum-known-typed
 enum-known-typed c = search needs
 
 size-of-requires : tie.Need-size-of-requires
-size-of-requires c κs = search (needs, not-below-zero)
+size-of-requires c κs = search needs
 
 enum-told : tie.Need-enum-told
 enum-told c = search needs

@@ -1,12 +1,12 @@
 -- `line::parameter::preset_rule` meets its contract.
 -- Assumes nothing.
 use borrow.Author.Needs.{needs}
-use Rattle.line.proofs.Parameters.{amount-natural, number-cells, no-space, other-unit, own-unit}
+use Rattle.line.proofs.Parameters.{number-cells, no-space, other-unit, own-unit}
 use Rattle.line.proofs.parameter.preset_rule.Statement.{statement}
 use Rattle.line.proofs.parameter.preset_rule.Tie as tie
 
-space-at-requires : tie.Need-space-at-requires
-space-at-requires c κs = search needs
+first-at-requires : tie.Need-first-at-requires
+first-at-requires c κs = search needs
 
 returns : tie.Need-returns
 returns c = search (needs, no-space)
@@ -29,14 +29,14 @@ is-unit-requires c κs = search needs
 slice-aggregate-read-typed : tie.Need-slice-aggregate-read-typed
 slice-aggregate-read-typed c =
     let start = c .before .before .before .before .before .before .before in
-    let space = c .before .before .before .before .before .space-at in
+    let space = c .before .before .before .before .before .first-at in
     number-cells (start .args .capacity) (start .args .unit) (start .args .parameter .now) (space .result) (space .ensures)
 
 read-typed-requires : tie.Need-read-typed-requires
 read-typed-requires c κs = search needs
 
 amount-rule-requires : tie.Need-amount-rule-requires
-amount-rule-requires c κs = search (needs, amount-natural)
+amount-rule-requires c κs = search needs
 
 returns-2 : tie.Need-returns-2
 returns-2 c = search (needs, own-unit)
@@ -48,7 +48,7 @@ pub preset-rule-spec : {M : Type 1} → statement M
 preset-rule-spec =
     tie.close
     (tie.spec
-    space-at-requires
+    first-at-requires
     returns
     add-start
     sub-is-unit

@@ -1,3 +1,5 @@
+-- `model::profile::are_texts_allowed` meets its contract.
+-- Assumes nothing.
 use borrow.Author.Needs.{needs}
 use Rattle.model.proofs.profile.are_texts_allowed.Statement.{statement}
 use Rattle.model.proofs.profile.are_texts_allowed.Tie as tie

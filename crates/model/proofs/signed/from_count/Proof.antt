@@ -1,3 +1,5 @@
+-- `model::signed::from_count` meets its contract.
+-- Assumes nothing.
 use borrow.Author.Needs.{needs}
 use Rattle.model.proofs.Widening.{count-gives}
 use Rattle.model.proofs.signed.from_count.Statement.{statement}

@@ -1,3 +1,5 @@
+-- `model::signed::from_load` meets its contract.
+-- Assumes nothing.
 use borrow.Author.Needs.{needs}
 use Rattle.model.proofs.Widening.{load-asks, load-gives}
 use Rattle.model.proofs.signed.from_load.Statement.{statement}

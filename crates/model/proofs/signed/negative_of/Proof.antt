@@ -1,3 +1,5 @@
+-- `model::signed::negative_of` meets its contract.
+-- Assumes nothing.
 use borrow.Author.Needs.{needs}
 use Rattle.model.proofs.Widening.{opposite-asks, opposite-gives}
 use Rattle.model.proofs.signed.negative_of.Statement.{statement}

@@ -1,3 +1,5 @@
+-- `model::state::is_between` meets its contract.
+-- Assumes nothing.
 use borrow.Author.Needs.{needs}
 use Rattle.model.proofs.state.is_between.Statement.{statement}
 use Rattle.model.proofs.state.is_between.Tie as tie

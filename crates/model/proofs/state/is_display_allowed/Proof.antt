@@ -1,3 +1,5 @@
+-- `model::state::is_display_allowed` meets its contract.
+-- Assumes nothing.
 use borrow.Author.Needs.{needs}
 use Rattle.model.proofs.state.is_display_allowed.Statement.{statement}
 use Rattle.model.proofs.state.is_display_allowed.Tie as tie

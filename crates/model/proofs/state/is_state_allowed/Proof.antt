@@ -1,3 +1,5 @@
+-- `model::state::is_state_allowed` meets its contract.
+-- Assumes nothing.
 use borrow.Author.Needs.{needs}
 use Rattle.model.specs.States.{stateAllowed}
 use Rattle.model.proofs.state.is_state_allowed.Statement.{statement}

@@ -1,3 +1,5 @@
+-- `model::state::start_state` meets its contract.
+-- Assumes nothing.
 use mathlib.Core.Path.{refl}
 use Rattle.model.specs.States.{startState}
 use Rattle.model.proofs.state.start_state.Statement.{statement}

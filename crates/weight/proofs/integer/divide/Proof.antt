@@ -1,3 +1,5 @@
+-- `weight::integer::divide` meets its contract.
+-- Assumes nothing.
 use borrow.Author.Needs.{needs}
 use Rattle.weight.proofs.Machine.{divide-asks, divide-gives, rest-gives}
 use Rattle.weight.proofs.integer.divide.Statement.{statement}

@@ -1,3 +1,5 @@
+-- `weight::integer::is_negative` meets its contract.
+-- Assumes nothing.
 use borrow.Author.Needs.{needs}
 use Rattle.weight.proofs.Machine.{negative-gives}
 use Rattle.weight.proofs.integer.is_negative.Statement.{statement}

@@ -1,14 +1,14 @@
-use mathlib.Core.Path.{_≡_, sym, ap, _∙_}
-use mathlib.Core.Bool.{true}
+-- `weight::integer::magnitude` meets its contract.
+-- Assumes nothing.
+use mathlib.Core.Path.{_≡_, sym, _∙_}
 use Prim.Native.Nat.{_+_}
-use native.Mathlib.Omega.{arith}
 use borrow.Author.Needs.{needs}
 use borrow.Author.Tests.{not-false}
-use lib.IntN.{natAbs, negℤ}
+use lib.IntN.{natAbs}
 use lib.Signed.{nonNeg}
 use mir.Facts.{fits-natAbs}
 use mir.Syntax.{w64}
-use mir.Val.{SFits, Fits}
+use mir.Val.{SFits}
 use Rattle.weight.proofs.Machine.{Above, above}
 use Rattle.weight.proofs.integer.magnitude.Statement.{statement}
 use Rattle.weight.proofs.integer.magnitude.Tie as tie

@@ -1,3 +1,5 @@
+-- `weight::integer::negate` meets its contract.
+-- Assumes nothing.
 use borrow.Author.Needs.{needs}
 use Rattle.weight.proofs.Machine.{negate-asks, negate-gives}
 use Rattle.weight.proofs.integer.negate.Statement.{statement}

@@ -1,3 +1,5 @@
+-- `weight::integer::to_natural` meets its contract.
+-- Assumes nothing.
 use borrow.Author.Needs.{needs}
 use Rattle.weight.proofs.Machine.{natural-asks}
 use Rattle.weight.proofs.integer.to_natural.Statement.{statement}

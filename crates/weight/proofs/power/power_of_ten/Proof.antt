@@ -1,42 +1,58 @@
--- `power_of_ten` meets its contract: the table's rule is a test at each of its eleven entries, which antt computes.
+-- `power_of_ten` meets its contract: the match has the powers one after another, and its rest case is 10.
 -- Assumes nothing.
-use mathlib.Core.List.{List, [], _∷_}
-use mathlib.Core.Bool.{Bool}
-use Prim.Native.Nat.{ℕ, _^_}
-use lib.Dec.{eqb, eqb→eq}
-use lib.ListN.{getD}
-use borrow.Author.Needs.{needs}
-use Rattle.weight.proofs.Table.{at}
+use mathlib.Core.Path.{_≡_}
+use native.Mathlib.Omega.{arith}
+use Rattle.weight.proofs.Matching.{none-of}
 use Rattle.weight.proofs.power.power_of_ten.Statement.{statement}
 use Rattle.weight.proofs.power.power_of_ten.Tie as tie
 
-powers : List ℕ
-powers =
-    1
-    ∷ 10
-    ∷ 100
-    ∷ 1_000
-    ∷ 10_000
-    ∷ 100_000
-    ∷ 1_000_000
-    ∷ 10_000_000
-    ∷ 100_000_000
-    ∷ 1_000_000_000
-    ∷ 10_000_000_000
-    ∷ []
-
-right : ℕ → ℕ → Bool
-right k x = eqb x (10 ^ k)
-
-mul-result : tie.Need-mul-result
-mul-result c = search needs
-
-array-read-result : tie.Need-array-read-result
-array-read-result c = search needs
-
 returns : tie.Need-returns
-unfolding powers right
-returns c = eqb→eq (getD powers (c .args .n) 0) (10 ^ c .args .n) (at right powers tt (c .args .n) (search needs))
+returns c = rw (c .match .keys1)
+
+returns-2 : tie.Need-returns-2
+returns-2 c = rw (c .match .keys2)
+
+returns-3 : tie.Need-returns-3
+returns-3 c = rw (c .match .keys3)
+
+returns-4 : tie.Need-returns-4
+returns-4 c = rw (c .match .keys4)
+
+returns-5 : tie.Need-returns-5
+returns-5 c = rw (c .match .keys5)
+
+returns-6 : tie.Need-returns-6
+returns-6 c = rw (c .match .keys6)
+
+returns-7 : tie.Need-returns-7
+returns-7 c = rw (c .match .keys7)
+
+returns-8 : tie.Need-returns-8
+returns-8 c = rw (c .match .keys8)
+
+returns-9 : tie.Need-returns-9
+returns-9 c = rw (c .match .keys9)
+
+returns-10 : tie.Need-returns-10
+returns-10 c = rw (c .match .keys10)
+
+returns-11 : tie.Need-returns-11
+returns-11 c =
+    let ten : c .before .args .n ≡ 10 = omega (arith, none-of 10 (c .before .args .n) (c .match .rest), c .before .pre) in
+    rw ten
 
 pub power-of-ten-spec : {M : Type 1} → statement M
-power-of-ten-spec = tie.close (tie.spec mul-result array-read-result returns)
+power-of-ten-spec =
+    tie.close
+    (tie.spec
+    returns
+    returns-2
+    returns-3
+    returns-4
+    returns-5
+    returns-6
+    returns-7
+    returns-8
+    returns-9
+    returns-10
+    returns-11)

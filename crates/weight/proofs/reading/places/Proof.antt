@@ -1,7 +1,9 @@
 -- `weight::reading::places` meets its contract.
 -- Assumes nothing.
+use native.Mathlib.Omega.{arith}
 use borrow.Author.Needs.{needs}
-use Rattle.weight.proofs.FieldText.{small-fits, opposite-fits, below-places, other-places}
+use Rattle.weight.proofs.FieldText.{small-fits, below-places, other-places}
+use Rattle.weight.proofs.Machine.{opposite-fits}
 use Rattle.weight.proofs.reading.places.Statement.{statement}
 use Rattle.weight.proofs.reading.places.Tie as tie
 
@@ -9,7 +11,7 @@ of-natural-requires : tie.Need-of-natural-requires
 of-natural-requires c κs = search (needs, small-fits)
 
 negate-requires : tie.Need-negate-requires
-negate-requires c κs = rw (c .before .of-natural .ensures) (opposite-fits (c .before .before .args .value) (c .before .before .pre))
+negate-requires c κs = rw (c .before .of-natural .ensures) (opposite-fits (c .before .before .args .value) (omega (arith, c .before .before .pre)))
 
 returns : tie.Need-returns
 returns c =

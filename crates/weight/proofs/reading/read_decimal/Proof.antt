@@ -5,8 +5,8 @@ use Rattle.weight.proofs.DecimalText.{whole-length, whole-room, fractio
 use Rattle.weight.proofs.reading.read_decimal.Statement.{statement}
 use Rattle.weight.proofs.reading.read_decimal.Tie as tie
 
-point-at-requires : tie.Need-point-at-requires
-point-at-requires c κs = search needs
+first-at-requires : tie.Need-first-at-requires
+first-at-requires c κs = search needs
 
 slice-aggregate-read-whole : tie.Need-slice-aggregate-read-whole
 slice-aggregate-read-whole c = search (needs, whole-length)
@@ -51,7 +51,7 @@ pub read-decimal-spec : {M : Type 1} → statement M
 read-decimal-spec =
     tie.close
     (tie.spec
-    point-at-requires
+    first-at-requires
     slice-aggregate-read-whole
     read-whole-requires
     add-start

@@ -1,3 +1,5 @@
+-- `weight::rounding::divisor_of` meets its contract.
+-- Assumes nothing.
 use native.Mathlib.Nat.{mul-le-mul, lt-of-le-of-lt}
 use borrow.Author.Needs.{needs}
 use lib.Dec.{lit<}

@@ -1,3 +1,5 @@
+-- `weight::rounding::is_allowed` meets its contract.
+-- Assumes nothing.
 use borrow.Author.Needs.{needs}
 use borrow.Author.Tests.{lt-leb, le-leb}
 use Rattle.weight.specs.Rounding.{allowedResolution}

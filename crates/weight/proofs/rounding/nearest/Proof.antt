@@ -1,11 +1,11 @@
-use mathlib.Core.Path.{_≡_, sym, ap, _∙_, subst}
-use Prim.Native.Nat.{ℕ, _+_, _<_, _≤_}
+-- `weight::rounding::nearest` meets its contract.
+-- Assumes nothing.
+use mathlib.Core.Path.{_≡_, sym, ap, _∙_}
+use Prim.Native.Nat.{_+_, _<_, _≤_}
 use native.Mathlib.Omega.{arith}
 use borrow.Author.Needs.{needs}
 use lib.IntN.{ℤ, pos, negsuc, natAbs, _+ℤ_}
 use lib.Signed.{remZ}
-use mir.Syntax.{w64}
-use mir.Val.{SFits}
 use Rattle.weight.specs.Rounding.{roundAway}
 use Rattle.weight.proofs.Nearest.{rest-below, stays, rises, falls, away-fits}
 use Rattle.weight.proofs.rounding.nearest.Statement.{statement}

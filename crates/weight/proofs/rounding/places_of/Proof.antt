@@ -1,3 +1,5 @@
+-- `weight::rounding::places_of` meets its contract.
+-- Assumes nothing.
 use borrow.Author.Needs.{needs}
 use Rattle.weight.proofs.rounding.places_of.Statement.{statement}
 use Rattle.weight.proofs.rounding.places_of.Tie as tie

@@ -1,3 +1,5 @@
+-- `weight::rounding::scale_of` meets its contract.
+-- Assumes nothing.
 use native.Mathlib.Omega.{arith}
 use borrow.Author.Needs.{needs}
 use Rattle.weight.proofs.Range.{scale-limit}

@@ -1,3 +1,5 @@
+-- `weight::rounding::steps_of` meets its contract.
+-- Assumes nothing.
 use mathlib.Core.Path.{_≡_}
 use Prim.Native.Nat.{_*_, _^_}
 use native.Mathlib.Nat.{lt-of-le-of-lt}

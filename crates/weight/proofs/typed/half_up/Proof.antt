@@ -1,5 +1,6 @@
-use mathlib.Core.Path.{_≡_, sym}
-use Prim.Native.Nat.{_+_, _/_, _%_, _<_, _≤_, _^_}
+-- `weight::typed::half_up` meets its contract.
+-- Assumes nothing.
+use mathlib.Core.Path.{sym}
 use native.Mathlib.Nat.{mod-lt, div-le-self}
 use native.Mathlib.Omega.{arith}
 use borrow.Author.Needs.{needs}

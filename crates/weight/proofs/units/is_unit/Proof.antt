@@ -1,10 +1,10 @@
-use mathlib.Core.Path.{_≡_, refl, sym, ap, _∙_}
-use Prim.Native.Nat.{ℕ, _≤_, _<_, _-_}
-use native.Mathlib.Omega.{arith}
+-- `weight::units::is_unit` meets its contract.
+-- Assumes nothing.
+use mathlib.Core.Path.{ap, _∙_}
+use Prim.Native.Nat.{_-_}
 use borrow.Author.Needs.{needs}
-use lib.ListN.{length, take, drop, getD}
+use lib.ListN.{take}
 use Rattle.weight.specs.Ascii.{sameText}
-use Rattle.weight.specs.Units.{unitText, unitCells, allUnits, firstNamed, unitNamed}
 use Rattle.weight.specs.declared.units.UnitText.{UnitText}
 use Rattle.weight.proofs.Named.{cells-text, cells-enough}
 use Rattle.weight.proofs.units.is_unit.Statement.{statement}

@@ -1,3 +1,5 @@
+-- `weight::units::nanograms_of` meets its contract.
+-- Assumes nothing.
 use borrow.Author.Needs.{needs}
 use Rattle.weight.proofs.units.nanograms_of.Statement.{statement}
 use Rattle.weight.proofs.units.nanograms_of.Tie as tie

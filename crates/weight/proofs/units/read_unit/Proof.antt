@@ -1,10 +1,11 @@
+-- `weight::units::read_unit` meets its contract.
+-- Assumes nothing.
 use mathlib.Core.Path.{_≡_, refl, sym, ap, _∙_}
-use Prim.Native.Nat.{ℕ, _≤_, _<_, _-_}
+use Prim.Native.Nat.{ℕ, _≤_, _-_}
 use native.Mathlib.Omega.{arith}
 use borrow.Author.Needs.{needs}
-use lib.ListN.{length, take, drop, getD}
-use Rattle.weight.specs.Ascii.{sameText}
-use Rattle.weight.specs.Units.{unitText, unitCells, allUnits, firstNamed, unitNamed}
+use lib.ListN.{drop}
+use Rattle.weight.specs.Units.{allUnits, firstNamed, unitNamed}
 use Rattle.weight.proofs.Named.{named-here, named-later}
 use Rattle.weight.proofs.units.read_unit.Statement.{statement}
 use Rattle.weight.proofs.units.read_unit.Tie as tie

@@ -1,3 +1,5 @@
+-- `weight::units::unit_text` meets its contract.
+-- Assumes nothing.
 use borrow.Author.Needs.{needs}
 use Rattle.weight.proofs.units.unit_text.Statement.{statement}
 use Rattle.weight.proofs.units.unit_text.Tie as tie

@@ -1,0 +1,28 @@
+use borrow.Author.Needs.{needs}
+use Rattle.commands.proofs.perform.preset.Statement.{statement}
+use Rattle.commands.proofs.perform.preset.Tie as tie
+
+with-tare-requires : tie.Need-with-tare-requires
+with-tare-requires c κs = search needs
+
+with-weighing-requires : tie.Need-with-weighing-requires
+with-weighing-requires c κs = search needs
+
+tare-answer-requires : tie.Need-tare-answer-requires
+tare-answer-requires c κs = search needs
+
+answered-requires : tie.Need-answered-requires
+answered-requires c κs = search needs
+
+returns : tie.Need-returns
+returns c = rw (c .answered .ensures, c .before .tare-answer .ensures, c .before .before .with-weighing .ensures, c .before .before .before .with-tare .ensures)
+
+pub preset-spec : {M : Type 1} → statement M
+preset-spec =
+    tie.close
+    (tie.spec
+    with-tare-requires
+    with-weighing-requires
+    tare-answer-requires
+    answered-requires
+    returns)

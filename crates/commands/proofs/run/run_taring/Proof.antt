@@ -1,0 +1,61 @@
+use borrow.Author.Needs.{needs}
+use Rattle.commands.proofs.OwnRule.{taring-begun, taring-at-once, taring-cleared, taring-asked}
+use Rattle.commands.proofs.run.run_taring.Statement.{statement}
+use Rattle.commands.proofs.run.run_taring.Tie as tie
+
+begun-requires : tie.Need-begun-requires
+begun-requires c κs = search needs
+
+returns : tie.Need-returns
+returns c = search (needs, taring-begun)
+
+tared-requires : tie.Need-tared-requires
+tared-requires c κs = search needs
+
+measured-reaction-requires : tie.Need-measured-reaction-requires
+measured-reaction-requires c κs = search needs
+
+returns-2 : tie.Need-returns-2
+returns-2 c = search (needs, taring-at-once)
+
+with-tare-requires : tie.Need-with-tare-requires
+with-tare-requires c κs = search needs
+
+with-weighing-requires : tie.Need-with-weighing-requires
+with-weighing-requires c κs = search needs
+
+plain-requires : tie.Need-plain-requires
+plain-requires c κs = search needs
+
+answered-requires : tie.Need-answered-requires
+answered-requires c κs = search needs
+
+returns-3 : tie.Need-returns-3
+returns-3 c = search (needs, taring-cleared)
+
+tare-answer-requires : tie.Need-tare-answer-requires
+tare-answer-requires c κs = search needs
+
+answered-requires-2 : tie.Need-answered-requires-2
+answered-requires-2 c κs = search needs
+
+returns-4 : tie.Need-returns-4
+returns-4 c = search (needs, taring-asked)
+
+pub run-taring-spec : {M : Type 1} → statement M
+run-taring-spec =
+    tie.close
+    (tie.spec
+    begun-requires
+    returns
+    tared-requires
+    measured-reaction-requires
+    returns-2
+    with-tare-requires
+    with-weighing-requires
+    plain-requires
+    answered-requires
+    returns-3
+    tare-answer-requires
+    answered-requires-2
+    returns-4)

@@ -1,0 +1,15 @@
+use borrow.Author.Needs.{needs}
+use Rattle.commands.proofs.weighing.tare_answer.Statement.{statement}
+use Rattle.commands.proofs.weighing.tare_answer.Tie as tie
+
+number-of-requires : tie.Need-number-of-requires
+number-of-requires c κs = search needs
+
+weight-answer-requires : tie.Need-weight-answer-requires
+weight-answer-requires c κs = search needs
+
+returns : tie.Need-returns
+returns c = rw (c .weight-answer .ensures, c .before .number-of .ensures)
+
+pub tare-answer-spec : {M : Type 1} → statement M
+tare-answer-spec = tie.close (tie.spec number-of-requires weight-answer-requires returns)

@@ -1,0 +1,4 @@
+pub mod Dues
+pub mod Ranges
+pub mod Reactions
+pub mod Weighings

@@ -1,0 +1,138 @@
+// What a finished line makes of the state, by its verdict.
+ghost use mathlib.Core.Path.{_≡_};
+ghost use mathlib.Core.Bool.{true};
+ghost use mathlib.Core.List.{_++_};
+ghost use Prim.Native.Nat.{_≤_};
+ghost use lib.ListN.{length, drop};
+ghost use Rattle.commands.specs.Ranges.{InReach, showsShort};
+ghost use Rattle.commands.specs.Reactions as meaning;
+ghost use Rattle.commands.specs.Weighings as weights;
+use crate::groups::with_display;
+use crate::groups::with_weighing;
+use crate::react::Reaction;
+use crate::react::answered;
+use crate::run::run;
+use crate::run::weight_shown;
+use crate::wait::not_waiting;
+use crate::weighing::plain;
+use crate::weighing::tare_answer;
+use crate::weighing::with_tare;
+use answer::Answer;
+use answer::D;
+use answer::I4;
+use answer::S;
+use answer::SI;
+use answer::SIR;
+use answer::Status;
+use line::Line;
+use line::Verdict;
+use model::Display;
+use model::Profile;
+use model::State;
+use model::Text20;
+use weight::Micrograms;
+
+// The name's place; for SI and SIR that of S.
+fn identification_of(command: u8) -> u8
+    ensures { λ r. ⌜ r ≡ meaning.identificationOf command ⌝ }
+{
+    let immediate = (command == SI) | (command == SIR);
+    if immediate {
+        return S;
+    }
+    command
+}
+
+// I: a command is waiting, or there is no sample yet.
+fn not_possible(state: State, command: u8) -> Reaction
+    ensures { λ r. ⌜ r ≡ meaning.reaction state (Answer.Plain (weights.headOf (meaning.identificationOf command) Status.I)) ⌝ }
+{
+    answered(state, plain(identification_of(command), Status::I))
+}
+
+// @: zero and the latest sample are kept.
+fn reset_state(state: State) -> State
+    ensures { λ r. ⌜ r ≡ meaning.resetState state ⌝ }
+{
+    let line = state.line;
+    let weighing = state.weighing;
+    let display = state.display;
+    State {
+        line,
+        weighing: with_tare(weighing, Micrograms(0)),
+        waiting: not_waiting(),
+        repeating: false,
+        display: weight_shown(display),
+    }
+}
+
+// The cells with a text in front.
+fn with_text(cells: [u8; 20], text: &[u8]) -> [u8; 20]
+    requires { ⌜ length (now text) ≤ 20 ⌝ }
+    ensures { λ r. ⌜ r ≡ now (text .entry) ++ drop (length (now (text .entry))) cells ⌝ }
+{
+    let mut bytes = cells;
+    let mut i = 0;
+    while i < text.len() {
+        bytes[i] = text[i];
+        i += 1;
+    }
+    bytes
+}
+
+// The text of D starts at the line's fourth byte, after the name, a space and a quote.
+const TEXT_START: usize = 3;
+
+fn text_shown(display: Display, line: Line, len: u8) -> Display
+    requires { ⌜ len ≤ 20 ⌝ }
+    ensures { λ r. ⌜ r ≡ meaning.textShown display line len ⌝ }
+{
+    let old = display.text;
+    let before = old.bytes;
+    let cells = line.bytes;
+    let end = TEXT_START + len as usize;
+    let bytes = with_text(before, &cells[TEXT_START..end]);
+    let text = Text20 { bytes, len };
+    Display { shown: true, text }
+}
+
+// D with a text.
+fn show_text(state: State, line: Line, len: u8) -> Reaction
+    requires { ⌜ len ≤ 20 ⌝ }
+    ensures { λ r. ⌜ r ≡ meaning.reaction (meaning.withDisplay state (meaning.textShown (state .display) line len)) (Answer.Plain (weights.headOf weights.placeD Status.A)) ⌝ }
+{
+    let display = state.display;
+    answered(
+        with_display(state, text_shown(display, line, len)),
+        plain(D, Status::A),
+    )
+}
+
+// TA with a number.
+fn preset(profile: Profile, state: State, tare: Micrograms) -> Reaction
+    ensures { λ r. ⌜ r ≡ meaning.reaction (meaning.withWeighing state (weights.withTare (state .weighing) (tare .0))) (weights.tareAnswer profile (tare .0)) ⌝ }
+{
+    let weighing = state.weighing;
+    answered(
+        with_weighing(state, with_tare(weighing, tare)),
+        tare_answer(profile, tare),
+    )
+}
+
+// `state` has its line cleared; `line` is the finished one.
+pub fn performed(profile: Profile, state: State, line: Line, verdict: Verdict) -> Reaction
+    requires { ⌜ InReach (state .weighing) ⌝ }
+    requires { ⌜ showsShort verdict ≡ true ⌝ }
+    ensures { λ r. ⌜ r ≡ meaning.performed profile state line verdict ⌝ }
+{
+    match verdict {
+        Verdict::Refused(error) => answered(state, Answer::Refused(error)),
+        Verdict::Reset => answered(reset_state(state), Answer::Text(I4)),
+        Verdict::Busy(command) => not_possible(state, command),
+        Verdict::Wrong(command) => answered(state, plain(command, Status::L)),
+        Verdict::NoSample(command) => not_possible(state, command),
+        Verdict::Run(command) => run(profile, state, command),
+        Verdict::Preset(tare) => preset(profile, state, tare),
+        Verdict::Show(len) => show_text(state, line, len),
+    }
+}

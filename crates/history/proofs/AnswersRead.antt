@@ -1,0 +1,345 @@
+-- The host reads every answer that a finished line or a sample gives.
+-- Assumes nothing.
+use Prim.Native.Nat.{ℕ, zero, suc, _+_, _<_}
+use native.Mathlib.Omega.{arith}
+use mathlib.Core.Path.{_≡_, refl, sym, _∙_}
+use mathlib.Core.Bool.{Bool, true, false, cond, _&&_, _||_, or-true, true≢false, false≢true}
+use mathlib.Core.List.{List}
+use borrow.Author.Tests.{le-leb, leb-true, lt-ltb, ne-eqb}
+use lib.Dec.{leb, eqb}
+use lib.IntN.{ℤ, pos, negsuc, negℤ}
+use lib.ListN.{length}
+use lib.Signed.{leZ, ltZ, nonNeg}
+use Rattle.answer.specs.declared.answer.Answer.the-variants.{Plain, Weight, CommandList, Versions}
+use Rattle.answer.specs.declared.answer.Answer.the-variants as answers
+use Rattle.answer.specs.declared.answer.Status.{Status}
+use Rattle.answer.specs.declared.answer.Status.the-variants.{A, S, D, I, L, Over, Under}
+use Rattle.model.specs.declared.profile.Profile.{Profile}
+use Rattle.model.specs.declared.profile.Text20.{Text20}
+use Rattle.model.specs.declared.profile.Text40.{Text40}
+use Rattle.commands.specs.declared.react.Reaction.{Reaction}
+use Rattle.model.specs.declared.state.Pending.{Pending}
+use Rattle.model.specs.declared.state.Pending.the-variants.{Nothing, Weigh, Zero, Tare}
+use Rattle.model.specs.declared.state.State.{State}
+use Rattle.model.specs.declared.weighing.Load.{Load}
+use Rattle.model.specs.declared.weighing.Weighing.{Weighing}
+use Rattle.model.specs.Profiles.{profileAllowed, textOf20, textOf40, textAllowed20, textAllowed40}
+use Rattle.commands.specs.Reactions.{withLine, withRepeating, placeOfPending, settled, begun, weighing, zeroing, taring, run, identificationOf, performed, byteReaction, waited, sampleReaction}
+use Rattle.model.specs.States.{isPending}
+use Rattle.commands.specs.Weighings.{placeS, placeZ, placeZI, placeDW, placeT, placeTA, placeTAC, placeTI, headOf, stability, grossOf, netOf, numberOf, weighed, withSample, zeroed, tared, tareAnswer}
+use Rattle.model.proofs.ProfileFacts.{AllowedProfile, allowed-profile, text-short}
+use Rattle.history.proofs.AnswerKinds.{Tests, weighed-weighs, tared-tares, tared-now-tares, told-tells}
+use Rattle.history.proofs.DueWeights.{InCapacity, not-below, net-printable, gross-printable, tare-printable}
+use Rattle.history.proofs.HostReads.{ReadByHost, nothing-read, list-read, plain-read, refused-read, versions-read, text-read, weight-read}
+use Rattle.history.proofs.WaitsAnswer.{in-limits}
+use Rattle.history.proofs.WaitsAllowed.{by-choice}
+use Rattle.history.proofs.Verdicts.{verdict-proper}
+use Rattle.history.proofs.WeightLines.{weighed-shows, tared-shows, tared-now-shows, told-shows}
+use Rattle.history.specs.Tally.{isWeightAnswer, tellsNet, grantsTare}
+use Rattle.host.specs.Forms.{plainForm, textForm}
+use Rattle.line.specs.declared.judge.Verdict.{Verdict}
+use Rattle.line.specs.declared.judge.Verdict.the-variants.{Refused, Reset, Busy, Wrong, NoSample, Run, Preset, Show}
+use Rattle.line.specs.declared.receive.Line.{Line}
+use Rattle.line.specs.Judging.{isPrintable, isSI, isSIR, judgement}
+use Rattle.line.specs.Receiving.{clearedLine, receivedByte}
+use Rattle.line.specs.Unbounded.{Marked, finishedLine, judgementOf}
+use Rattle.line.proofs.Kept.{Holds, Keeps, ends-alike, holds-finished, holds-judged}
+use Rattle.line.proofs.Verdicts.{busy-line, wrong-line, no-sample-line}
+use Rattle.weight.specs.Printing.{printable}
+use Rattle.weight.specs.Rounding.{roundAway, stepsOf, placesOf}
+use Rattle.weight.specs.declared.rounding.Resolution.{Resolution}
+use Rattle.weight.proofs.Allowed.{both-right}
+
+-- ---- the texts of I2 to I5
+
+-- a text that its line may carry
+form20 : (c : ℕ) (t : Text20) → (leb 2 c && leb c 5) ≡ true → textAllowed20 t ≡ true → textForm c (textOf20 t) ≡ true
+form20 c t place e =
+    rw (place, le-leb (length (textOf20 t)) 20 (text-short 20 (t .len) (t .bytes) e), both-right (leb (t .len) 20) (isPrintable (textOf20 t)) e)
+
+form40 : (c : ℕ) (t : Text40) → (leb 2 c && leb c 5) ≡ true → leb c 3 ≡ true → textAllowed40 t ≡ true → textForm c (textOf40 t) ≡ true
+form40 c t place first e =
+    rw (
+      place,
+      first,
+      le-leb (length (textOf40 t)) 40 (text-short 40 (t .len) (t .bytes) e),
+      or-true (leb (length (textOf40 t)) 20),
+      both-right (leb (t .len) 40) (isPrintable (textOf40 t)) e,
+    )
+
+module _ (p : Profile) (allowed : profileAllowed p ≡ true) where
+  abbrev facts : AllowedProfile p
+  facts = allowed-profile p allowed
+
+  -- I2 to I5, whose texts the profile allows
+  identity-read : (c : ℕ) → eqb c 0 ≡ false → eqb c 1 ≡ false → leb c 5 ≡ true → ReadByHost p (answers.Text c)
+  identity-read zero e f h = absurd (true≢false e)
+  identity-read (suc zero) e f h = absurd (true≢false f)
+  identity-read (suc (suc zero)) e f h = text-read p 2 (form40 2 (p .model) refl refl (facts .model))
+  identity-read (suc (suc (suc zero))) e f h = text-read p 3 (form40 3 (p .software) refl refl (facts .software))
+  identity-read (suc (suc (suc (suc zero)))) e f h = text-read p 4 (form20 4 (p .serial) refl (facts .serial))
+  identity-read (suc (suc (suc (suc (suc zero))))) e f h = text-read p 5 (form20 5 (p .identity) refl (facts .identity))
+  identity-read (suc (suc (suc (suc (suc (suc c)))))) e f h = absurd (omega (arith, leb-true (suc (suc (suc (suc (suc (suc c)))))) 5 h))
+
+  -- I0 to I5
+  informed-by : (c : ℕ) (first second : Bool) → eqb c 0 ≡ first → eqb c 1 ≡ second → leb c 5 ≡ true
+      → ReadByHost p (cond first CommandList (cond second Versions (answers.Text c)))
+  informed-by c true second e f h = list-read p
+  informed-by c false true e f h = versions-read p
+  informed-by c false false e f h = identity-read c e f h
+
+-- ---- weights
+
+-- a weight that is not below zero is printed as such
+natural-printed : (r : Resolution) (w : ℤ) → nonNeg w ≡ true → nonNeg (placesOf r w) ≡ true
+unfolding placesOf stepsOf roundAway
+natural-printed r (pos m) e = refl
+natural-printed r (negsuc m) e = absurd (false≢true e)
+
+-- at least 0 is not below zero
+from-zero : (w : ℤ) → leZ (pos 0) w ≡ true → nonNeg w ≡ true
+from-zero (pos m) e = refl
+from-zero (negsuc m) e = e
+
+-- the tally takes for weights: S S, S D
+net-weight : {zero tare clear told : Bool} (l : List ℕ) → Tests zero tare clear told true l → isWeightAnswer l ≡ true
+net-weight l k = rw (k .net-is)
+
+-- T S, TI S, TI D
+tare-weight : {zero clear told net : Bool} (l : List ℕ) → Tests zero true clear told net l → isWeightAnswer l ≡ true
+tare-weight l k = rw (k .tare-is, or-true (tellsNet l))
+
+-- TA A
+told-weight : {zero tare clear net : Bool} (l : List ℕ) → Tests zero tare clear true net l → isWeightAnswer l ≡ true
+told-weight l k = rw (k .told-is, or-true (tellsNet l || grantsTare l))
+
+module _ (p : Profile) (allowed : profileAllowed p ≡ true) where
+  -- S S, S D
+  net-form : (stable : Bool) (w : ℤ) → printable (p .resolution) w ≡ true → ReadByHost p (Weight (headOf placeS (cond stable S D)) (numberOf p w))
+  net-form true w fits =
+      weight-read p w fits placeS S refl refl (net-weight _ (weighed-weighs p true (numberOf p w))) (weighed-shows p w fits true)
+  net-form false w fits =
+      weight-read p w fits placeS D refl refl (net-weight _ (weighed-weighs p false (numberOf p w))) (weighed-shows p w fits false)
+
+  -- TI S, TI D
+  tare-form : (stable : Bool) (w : ℤ) → printable (p .resolution) w ≡ true → nonNeg w ≡ true → ReadByHost p (Weight (headOf placeTI (cond stable S D)) (numberOf p w))
+  tare-form true w fits sign =
+      weight-read p w fits placeTI S refl (natural-printed (p .resolution) w sign) (tare-weight _ (tared-now-tares p true (numberOf p w))) (tared-now-shows p w fits true)
+  tare-form false w fits sign =
+      weight-read p w fits placeTI D refl (natural-printed (p .resolution) w sign) (tare-weight _ (tared-now-tares p false (numberOf p w))) (tared-now-shows p w fits false)
+
+  -- T S
+  settled-form : (w : ℤ) → printable (p .resolution) w ≡ true → nonNeg w ≡ true → ReadByHost p (Weight (headOf placeT S) (numberOf p w))
+  settled-form w fits sign =
+      weight-read p w fits placeT S refl (natural-printed (p .resolution) w sign) (tare-weight _ (tared-tares p (numberOf p w))) (tared-shows p w fits)
+
+  -- TA
+  told-read : (w : ℤ) → InCapacity (p .capacity) w → ReadByHost p (tareAnswer p w)
+  told-read w range =
+      let fits = tare-printable p allowed w range in
+      weight-read p w fits placeTA A refl (natural-printed (p .resolution) w (from-zero w (range .least))) (told-weight _ (told-tells p (numberOf p w))) (told-shows p w fits)
+
+-- ---- S, Z and T
+
+module _ (p : Profile) (allowed : profileAllowed p ≡ true) (w : Weighing) (range : InCapacity (p .capacity) (w .tare .0)) where
+  -- S, SI, SIR
+  weighed-read : ReadByHost p (weighed p w)
+  unfolding weighed
+  weighed-read =
+      in-limits (ReadByHost p) placeS (ltZ (pos (p .capacity)) (grossOf w)) (ltZ (grossOf w) (negℤ (pos (p .underload))))
+      (Weight (headOf placeS (stability w)) (numberOf p (netOf w)))
+      (plain-read p placeS Over refl)
+      (plain-read p placeS Under refl)
+      (λ o u. net-form p allowed (w .stable) (netOf w) (net-printable p allowed (grossOf w) (w .tare .0) o u range))
+
+  -- Z, ZI
+  zeroed-read : (c : ℕ) (granted : Status) → plainForm c Over ≡ true → plainForm c Under ≡ true → plainForm c granted ≡ true
+      → ReadByHost p (zeroed p w c granted .answer)
+  unfolding zeroed
+  zeroed-read c granted o u g =
+      in-limits (ReadByHost p) c (ltZ (pos (p .zeroing)) (w .load .0)) (ltZ (w .load .0) (negℤ (pos (p .zeroing)))) (Plain (headOf c granted))
+      (plain-read p c Over o)
+      (plain-read p c Under u)
+      (λ over under. plain-read p c granted g)
+
+  -- T, TI
+  tared-read : (c : ℕ) → plainForm c Over ≡ true → plainForm c Under ≡ true
+      → (printable (p .resolution) (grossOf w) ≡ true → nonNeg (grossOf w) ≡ true → ReadByHost p (Weight (headOf c (stability w)) (numberOf p (grossOf w))))
+      → ReadByHost p (tared p w c .answer)
+  unfolding tared
+  tared-read c o u h =
+      in-limits (ReadByHost p) c (ltZ (pos (p .capacity)) (grossOf w)) (ltZ (grossOf w) (pos 0)) (Weight (headOf c (stability w)) (numberOf p (grossOf w)))
+      (plain-read p c Over o)
+      (plain-read p c Under u)
+      (λ over under. h (gross-printable p allowed (grossOf w) over under) (from-zero (grossOf w) (not-below (grossOf w) (pos 0) under)))
+
+  -- what a waiting command answers at a stable sample
+  settled-read : (pending : Pending) → w .stable ≡ true → ReadByHost p (settled p pending w .answer)
+  settled-read Nothing stable = nothing-read p
+  settled-read Weigh stable = weighed-read
+  settled-read Zero stable = zeroed-read placeZ A refl refl refl
+  settled-read Tare stable = tared-read placeT refl refl (λ fits sign. rw stable (settled-form p allowed (grossOf w) fits sign))
+
+-- ZI with S or D
+stability-form : (stable : Bool) → plainForm placeZI (cond stable S D) ≡ true
+stability-form true = refl
+stability-form false = refl
+
+-- ---- a command's own rule
+
+-- the host reads the answer of a reaction
+abbrev ReadIn : Profile → Reaction → Type 0
+ReadIn p r = ReadByHost p (r .answer)
+
+module _ (p : Profile) (allowed : profileAllowed p ≡ true) (s : State) (range : InCapacity (p .capacity) (s .weighing .tare .0)) where
+  -- judged at once, or waiting without an answer
+  begun-read : (pending : Pending) → ReadIn p (begun p s pending)
+  unfolding begun
+  begun-read pending =
+      by-choice (ReadIn p) (s .weighing .sampled && s .weighing .stable)
+      (λ e. settled-read p allowed (s .weighing) range pending (both-right (s .weighing .sampled) (s .weighing .stable) e))
+      (λ e. nothing-read p)
+
+module _ (p : Profile) (allowed : profileAllowed p ≡ true) (s : State) (range : InCapacity (p .capacity) (s .weighing .tare .0)) (c : ℕ) where
+  -- S, SI, SIR
+  weighing-read : ReadIn p (weighing p s c)
+  unfolding weighing
+  weighing-read =
+      by-choice (ReadIn p) (isSI c || isSIR c)
+      (λ e. weighed-read p allowed (s .weighing) range)
+      (λ e. begun-read p allowed (withRepeating s false) range Weigh)
+
+  -- Z, ZI
+  zeroing-read : ReadIn p (zeroing p s c)
+  unfolding zeroing
+  zeroing-read =
+      by-choice (ReadIn p) (eqb c placeZI)
+      (λ e. zeroed-read p allowed (s .weighing) range placeZI (stability (s .weighing)) refl refl (stability-form (s .weighing .stable)))
+      (λ e. begun-read p allowed s range Zero)
+
+  -- T, TA alone, TAC, TI
+  taring-read : ReadIn p (taring p s c)
+  unfolding taring
+  taring-read =
+      by-choice (ReadIn p) (eqb c placeT)
+      (λ e. begun-read p allowed s range Tare)
+      (λ e.
+      by-choice (ReadIn p) (eqb c placeTI)
+      (λ f. tared-read p allowed (s .weighing) range placeTI refl refl (tare-form p allowed (s .weighing .stable) (grossOf (s .weighing))))
+      (λ f.
+      by-choice (ReadIn p) (eqb c placeTAC)
+      (λ g. plain-read p placeTAC A refl)
+      (λ g. told-read p allowed (s .weighing .tare .0) range)))
+
+  -- a command that is run
+  run-read : ReadIn p (run p s c)
+  unfolding run
+  run-read =
+      by-choice (ReadIn p) (leb c 5)
+      (λ e. informed-by p allowed c (eqb c 0) (eqb c 1) refl refl e)
+      (λ e.
+      by-choice (ReadIn p) (leb c 8)
+      (λ f. weighing-read)
+      (λ f.
+      by-choice (ReadIn p) (leb c 10)
+      (λ g. zeroing-read)
+      (λ g. by-choice (ReadIn p) (leb c placeDW) (λ i. plain-read p placeDW A refl) (λ i. taring-read))))
+
+-- ---- a finished line
+
+-- what is known of the command that a verdict names, and of a typed tare
+abbrev Named : Profile → Verdict → Type 0
+Named p (Refused e) = Unit
+Named p Reset = Unit
+Named p (Busy c) = plainForm (identificationOf c) I ≡ true
+Named p (Wrong c) = plainForm c L ≡ true
+Named p (NoSample c) = plainForm (identificationOf c) I ≡ true
+Named p (Run c) = Unit
+Named p (Preset m) = InCapacity (p .capacity) (m .0)
+Named p (Show n) = Unit
+
+-- every name but @ has an answer with I, by its identification
+identified-by : (now : Bool) (c : ℕ) → (isSI c || isSIR c) ≡ now → c < 18 → (c ≡ 11 → ⊥) → plainForm (cond now placeS c) I ≡ true
+identified-by true c e known other = refl
+identified-by false c e known other = rw (lt-ltb c 18 known, e, ne-eqb c 11 other)
+
+-- the same by the tests of the name
+identified : (c : ℕ) → c < 18 → (c ≡ 11 → ⊥) → plainForm (identificationOf c) I ≡ true
+identified c known other = identified-by (isSI c || isSIR c) c refl known other
+
+-- the verdict on a line names a command that the reader knows
+verdict-named
+    : (p : Profile) (f : List Marked) (waiting sampled : Bool) (l : Line) → Holds l f → (v : Verdict)
+    → judgementOf (p .capacity) (p .resolution .unit) f waiting sampled ≡ v
+    → Named p v
+verdict-named p f waiting sampled l held (Refused e) h = tt
+verdict-named p f waiting sampled l held Reset h = tt
+verdict-named p f waiting sampled l held (Busy c) h =
+    let k = busy-line (p .capacity) (p .resolution .unit) f waiting sampled h .0 in
+    identified c (k .a-name) (k .no-reset)
+verdict-named p f waiting sampled l held (Wrong c) h = wrong-line (p .capacity) (p .resolution .unit) f waiting sampled h .1
+verdict-named p f waiting sampled l held (NoSample c) h =
+    let k = no-sample-line (p .capacity) (p .resolution .unit) f waiting sampled h .0 in
+    identified c (k .a-name) (k .no-reset)
+verdict-named p f waiting sampled l held (Run c) h = tt
+verdict-named p f waiting sampled l held (Preset m) h =
+    verdict-proper (p .capacity) (p .resolution .unit) f waiting sampled l held (Preset m) h
+verdict-named p f waiting sampled l held (Show n) h = tt
+
+module _ (p : Profile) (allowed : profileAllowed p ≡ true) (s : State) (range : InCapacity (p .capacity) (s .weighing .tare .0)) where
+  -- what each verdict answers
+  performed-read : (l : Line) (v : Verdict) → Named p v → ReadIn p (performed p s l v)
+  performed-read l (Refused e) named = refused-read p e
+  performed-read l Reset named = identity-read p allowed 4 refl refl refl
+  performed-read l (Busy c) named = plain-read p (identificationOf c) I named
+  performed-read l (Wrong c) named = plain-read p c L named
+  performed-read l (NoSample c) named = plain-read p (identificationOf c) I named
+  performed-read l (Run c) named = run-read p allowed s range c
+  performed-read l (Preset m) named = told-read p allowed (m .0) named
+  performed-read l (Show n) named = plain-read p 12 A refl
+
+-- ---- a byte
+
+module _ (p : Profile) (allowed : profileAllowed p ≡ true) (s : State) (range : InCapacity (p .capacity) (s .weighing .tare .0)) (u : List Marked) (keeps : Keeps (s .line) u) where
+  -- the answer to a byte
+  pub byte-read : (b : ℕ) (bad : Bool) → ReadIn p (byteReaction p s b bad)
+  unfolding byteReaction
+  byte-read b bad =
+      let l : Line = receivedByte (s .line) b bad .line in
+      let v : Verdict = judgement (p .capacity) (p .resolution .unit) l (isPending (s .waiting .pending)) (s .weighing .sampled) in
+      by-choice (ReadIn p) (receivedByte (s .line) b bad .ended)
+      (λ e.
+      let held : Holds l (finishedLine u) = holds-finished (s .line) u keeps b bad (sym (ends-alike (s .line) u keeps b bad) ∙ e) in
+      performed-read p allowed (withLine s (clearedLine l)) range l v
+      (verdict-named p (finishedLine u) (isPending (s .waiting .pending)) (s .weighing .sampled) l held v
+      (sym (holds-judged (p .capacity) (p .resolution .unit) (isPending (s .waiting .pending)) (s .weighing .sampled) l (finishedLine u) held))))
+      (λ e. nothing-read p)
+
+-- ---- a sample
+
+-- what may wait is answered by I
+pending-form : (pending : Pending) → plainForm (placeOfPending pending) I ≡ true
+pending-form Nothing = refl
+pending-form Weigh = refl
+pending-form Zero = refl
+pending-form Tare = refl
+
+module _ (p : Profile) (allowed : profileAllowed p ≡ true) (s : State) (range : InCapacity (p .capacity) (s .weighing .tare .0)) (z : Load) where
+  -- the SI answer while a repetition runs
+  repeated-read : (repeating stable : Bool) → ReadByHost p (cond repeating (weighed p (withSample (s .weighing) z stable)) answers.Nothing)
+  repeated-read true stable = weighed-read p allowed (withSample (s .weighing) z stable) range
+  repeated-read false stable = nothing-read p
+
+  -- the answer to a sample
+  pub sample-read : (stable : Bool) → ReadIn p (sampleReaction p s z stable)
+  unfolding sampleReaction waited
+  sample-read stable =
+      by-choice (ReadIn p) (isPending (s .waiting .pending))
+      (λ waits.
+      by-choice (ReadIn p) stable
+      (λ e. settled-read p allowed (withSample (s .weighing) z stable) range (s .waiting .pending) e)
+      (λ e.
+      by-choice (ReadIn p) (leb (p .timeout) (s .waiting .unstable + 1))
+      (λ most. plain-read p (placeOfPending (s .waiting .pending)) I (pending-form (s .waiting .pending)))
+      (λ less. nothing-read p)))
+      (λ none. repeated-read (s .repeating) stable)

@@ -1,0 +1,12 @@
+// The module and the host's reader behind three functions on byte slices, for the benchmark of tests/benchmark, which has the same
+// loops over two Rust implementations. What is counted there is the proved code, so these loops do no more than feed it. The three
+// promise only to end and to stay within bounds: what they call has the contracts.
+mod calls;
+mod lines;
+mod profile;
+mod record;
+mod sums;
+
+pub use calls::proved_calls;
+pub use lines::proved_lines;
+pub use lines::proved_rewritten;

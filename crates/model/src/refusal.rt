@@ -1,0 +1,7 @@
+// Why a call is refused: document 01's refusal numbers 1, 2 and 3; 0 is no refusal.
+pub enum Refusal {
+    None,
+    Profile,
+    State,
+    Room,
+}

@@ -1,0 +1,82 @@
+-- A number below zero fits exactly when it is below 10^8, which is seen without dividing.
+-- Assumes nothing.
+use mathlib.Core.Path.{_≡_, refl, sym, ap, _∙_}
+use mathlib.Core.Logic.{⊎-elim}
+use mathlib.Core.Bool.{true}
+use Prim.Native.Nat.{ℕ, zero, suc, _+_, _*_, _/_, _^_, _≤_, _<_}
+use native.Mathlib.Nat.{mul-pos, mul-le-mul, mul-le-mul-right, le-of-suc-le-suc, mul-lt-mul-of-pos-right, lt-of-mul-lt-mul-right, one-le-pow}
+use native.Mathlib.Omega.{arith}
+use borrow.Author.Tests.{le-leb, le-ltb, lt-ltb, ltb-true}
+use lib.Dec.{ltb}
+use lib.IntN.{pos, negsuc, negℤ}
+use Rattle.weight.specs.declared.rounding.Resolution.{Resolution}
+use Rattle.weight.specs.Units.{nanogramsOf}
+use Rattle.weight.specs.Rounding.{allowedResolution, halfUp}
+use Rattle.weight.specs.Field.{fitsField}
+use Rattle.weight.specs.Printing.{fitsBelowZero}
+use Rattle.weight.proofs.Allowed.{nanograms-least, nanograms-positive, allowed-decimals, allowed-step, allowed-step-positive, allowed-step-limit}
+use Rattle.weight.proofs.Monotone.{naturalPlaces, places-of-negated}
+use Rattle.weight.proofs.Range.{scale-limit}
+use Rattle.weight.proofs.Width.{tests-agree, div-test, fits-limit, facts-fit}
+
+-- a rounded number in steps of k, where k divides 10^8: nothing is rounded if both sides are multiplied
+step-test
+    : (m u k p : ℕ) → 0 < u → 0 < k → p * k ≡ 100_000_000
+    → ltb (halfUp m (k * u) * k) 100_000_000 ≡ ltb (m + m + k * u) (u * 200_000_000)
+unfolding halfUp
+step-test m u k p h j e =
+    let n : ℕ = k * u in
+    let q : ℕ = (2 * m + n) / (2 * n) in
+    let positive : 0 < n = mul-pos j h in
+    let doubled : 2 * m + n ≡ m + m + n = omega arith in
+    let same : p * (2 * n) ≡ u * 200_000_000 = omega (arith, ap (λ (x : ℕ). x * u) e) in
+    tests-agree (suc (q * k)) 100_000_000 (suc q) p (λ l. lt-of-mul-lt-mul-right k (rw e l)) (λ l. rw (← e) (mul-lt-mul-of-pos-right l j))
+    ∙ div-test (2 * m + n) (2 * n) p (omega arith)
+    ∙ rw (doubled, same)
+
+-- eight digits beside the minus and the point; without a point there would be nine
+eight-digits : (d n : ℕ) → d ≤ 6 → (d ≡ 0 → n < 100_000_000) → fitsField d (negℤ (pos n)) ≡ ltb n 100_000_000
+eight-digits d zero h small = facts-fit d (pos 0) h (one-le-pow _ 10 (omega arith))
+eight-digits zero (suc n) h small =
+    rw (lt-ltb (suc n) 100_000_000 (small refl)) (facts-fit 0 (negsuc n) h (omega (arith, small refl)))
+eight-digits (suc d) (suc n) h small = rw (fits-limit (suc d) (negsuc n), le-leb (suc d) 6 h, le-ltb (suc d) 1 (omega arith))
+
+step-divides : (r : Resolution) → allowedResolution r ≡ true → 100_000_000 / r .step * r .step ≡ 100_000_000
+step-divides r h = ⊎-elim (λ e. rw e) (λ e. ⊎-elim (λ e. rw e) (λ e. rw e) e) (allowed-step r h)
+
+-- micrograms, before they are divided by the display step
+abbrev scaled : Resolution → ℕ → ℕ
+scaled r m = m * (1000 * 10 ^ (r .decimals))
+
+abbrev displayStep : Resolution → ℕ
+displayStep r = r .step * nanogramsOf (r .unit)
+
+module _ (r : Resolution) (m : ℕ) (allowed : allowedResolution r ≡ true) where
+  -- whether the number of m micrograms is below 10^8
+  places-test : ltb (naturalPlaces r m) 100_000_000 ≡ ltb (scaled r m + scaled r m + displayStep r) (nanogramsOf (r .unit) * 200_000_000)
+  places-test =
+      step-test
+      (scaled r m)
+      (nanogramsOf (r .unit))
+      (r .step)
+      (100_000_000 / r .step)
+      (nanograms-positive (r .unit))
+      (allowed-step-positive r allowed)
+      (step-divides r allowed)
+
+  module _ (small : m < 2 ^ 32) where
+    pub scaled-limit : scaled r m ≤ 4_294_967_295 * 1_000_000_000
+    scaled-limit = mul-le-mul (le-of-suc-le-suc small) (scale-limit (r .decimals) (allowed-decimals r allowed))
+
+    -- without decimals it always is, since every unit has a million nanograms or more
+    few-places : r .decimals ≡ 0 → naturalPlaces r m < 100_000_000
+    few-places e =
+        let whole : scaled r m ≡ m * 1000 = rw e in
+        let step : displayStep r ≤ 5 * nanogramsOf (r .unit) = mul-le-mul-right (nanogramsOf (r .unit)) (allowed-step-limit r allowed) in
+        let below : scaled r m + scaled r m + displayStep r < nanogramsOf (r .unit) * 200_000_000 = omega (arith, nanograms-least (r .unit)) in
+        ltb-true _ _ (places-test ∙ lt-ltb _ _ below)
+
+    pub below-zero-test : ltb (scaled r m + scaled r m + displayStep r) (nanogramsOf (r .unit) * 200_000_000) ≡ fitsBelowZero r m
+    below-zero-test =
+        rw (allowed, places-of-negated r m, eight-digits (r .decimals) (naturalPlaces r m) (allowed-decimals r allowed) few-places)
+        (sym places-test)

@@ -1,0 +1,89 @@
+//! The profile, and when it is refused.
+
+use super::weight::{Scale, Unit};
+
+/// A text: its first `len` bytes.
+#[derive(Clone, Copy, Debug)]
+pub struct Text<const N: usize> {
+    pub bytes: [u8; N],
+    pub len: u8,
+}
+
+impl<const N: usize> Text<N> {
+    pub fn get(&self) -> Option<&[u8]> {
+        self.bytes.get(..usize::from(self.len))
+    }
+
+    pub fn is_allowed(&self) -> bool {
+        self.get().is_some_and(is_printable)
+    }
+
+    fn from(bytes: &[u8]) -> Text<N> {
+        let mut text = Text { bytes: [0; N], len: bytes[0] };
+        text.bytes.copy_from_slice(&bytes[1..=N]);
+        text
+    }
+}
+
+/// Bytes 32 to 255 without 34. No early end, so that several bytes are tested at once.
+pub fn is_printable(text: &[u8]) -> bool {
+    text.iter().fold(true, |good, &byte| good & (byte >= 32) & (byte != b'"'))
+}
+
+#[derive(Clone, Copy, Debug)]
+pub struct Profile {
+    pub capacity: u32,
+    pub underload: u32,
+    pub zeroing: u32,
+    pub timeout: u32,
+    pub scale: Scale,
+    /// The texts of I2 to I5.
+    pub model: Text<40>,
+    pub software: Text<40>,
+    pub serial: Text<20>,
+    pub identity: Text<20>,
+}
+
+/// The bytes of a profile in the benchmark's input.
+pub const SIZE: usize = 144;
+
+impl Profile {
+    pub fn is_allowed(&self) -> bool {
+        self.are_limits_allowed()
+            && self.scale.is_allowed()
+            && self.scale.prints(self.lowest_net())
+            && self.model.is_allowed()
+            && self.software.is_allowed()
+            && self.serial.is_allowed()
+            && self.identity.is_allowed()
+    }
+
+    /// No net has a longer text: it has the most digits, and a minus unless it is rounded to zero.
+    fn lowest_net(&self) -> i64 {
+        -(i64::from(self.capacity) + i64::from(self.underload))
+    }
+
+    fn are_limits_allowed(&self) -> bool {
+        (1..=1_000_000_000).contains(&self.capacity)
+            && self.underload <= self.capacity
+            && self.zeroing <= self.capacity
+            && (1..=1000).contains(&self.timeout)
+    }
+
+    /// The n-th of several in the benchmark's input.
+    pub fn at(profiles: &[u8], n: u32) -> Profile {
+        let bytes = &profiles[n as usize * SIZE..][..SIZE];
+        let number = |at: usize| u32::from_le_bytes([bytes[at], bytes[at + 1], bytes[at + 2], bytes[at + 3]]);
+        Profile {
+            capacity: number(0),
+            underload: number(4),
+            zeroing: number(8),
+            timeout: number(12),
+            scale: Scale { unit: Unit::at(bytes[16]), decimals: bytes[17], step: bytes[18] },
+            model: Text::from(&bytes[19..]),
+            software: Text::from(&bytes[60..]),
+            serial: Text::from(&bytes[101..]),
+            identity: Text::from(&bytes[122..]),
+        }
+    }
+}

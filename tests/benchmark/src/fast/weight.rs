@@ -1,0 +1,175 @@
+//! Units, rounding, the ten characters, typed numbers.
+
+#[derive(Clone, Copy, Debug, PartialEq, Eq)]
+#[repr(u8)]
+pub enum Unit {
+    Gram,
+    Milligram,
+    Carat,
+    Ounce,
+    TroyOunce,
+    Grain,
+    Pennyweight,
+}
+
+const POWERS: [u64; 11] = [1, 10, 100, 1_000, 10_000, 100_000, 1_000_000, 10_000_000, 100_000_000, 1_000_000_000, 10_000_000_000];
+
+impl Unit {
+    pub fn at(place: u8) -> Unit {
+        match place {
+            0 => Unit::Gram,
+            1 => Unit::Milligram,
+            2 => Unit::Carat,
+            3 => Unit::Ounce,
+            4 => Unit::TroyOunce,
+            5 => Unit::Grain,
+            _ => Unit::Pennyweight,
+        }
+    }
+
+    pub fn nanograms(self) -> u64 {
+        const NANOGRAMS: [u64; 7] =
+            [1_000_000_000, 1_000_000, 200_000_000, 28_349_523_125, 31_103_476_800, 64_798_910, 1_555_173_840];
+        NANOGRAMS[self as usize]
+    }
+
+    pub fn name(self) -> &'static [u8] {
+        const NAMES: [&[u8]; 7] = [b"g", b"mg", b"ct", b"oz", b"ozt", b"GN", b"dwt"];
+        NAMES[self as usize]
+    }
+
+    pub fn named(text: &[u8]) -> Option<Unit> {
+        Some(match text {
+            b"g" => Unit::Gram,
+            b"mg" => Unit::Milligram,
+            b"ct" => Unit::Carat,
+            b"oz" => Unit::Ounce,
+            b"ozt" => Unit::TroyOunce,
+            b"GN" => Unit::Grain,
+            b"dwt" => Unit::Pennyweight,
+            _ => return None,
+        })
+    }
+}
+
+#[derive(Clone, Copy, Debug)]
+pub struct Scale {
+    pub unit: Unit,
+    pub decimals: u8,
+    pub step: u8,
+}
+
+impl Scale {
+    pub fn is_allowed(&self) -> bool {
+        self.decimals <= 6 && matches!(self.step, 1 | 2 | 5) && self.divisor() >= self.multiplier()
+    }
+
+    fn divisor(&self) -> u64 {
+        u64::from(self.step) * self.unit.nanograms()
+    }
+
+    fn multiplier(&self) -> u64 {
+        1000 * POWERS[usize::from(self.decimals)]
+    }
+
+    /// Rounded to the nearest multiple of the step, a tie away from zero; the scale is allowed.
+    pub fn places(&self, net: i64) -> i64 {
+        let divisor = self.divisor();
+        let steps = (net.unsigned_abs() * self.multiplier() + divisor / 2) / divisor;
+        let size = (steps * u64::from(self.step)) as i64;
+        if net < 0 {
+            -size
+        } else {
+            size
+        }
+    }
+
+    pub fn prints(&self, net: i64) -> bool {
+        fits(self.places(net), self.decimals)
+    }
+}
+
+/// Whether a number with at most 6 decimals takes at most ten characters.
+pub fn fits(places: i64, decimals: u8) -> bool {
+    let room = 10 - usize::from(decimals > 0) - usize::from(places < 0);
+    places.unsigned_abs() < POWERS[room]
+}
+
+/// The ten characters of a number that fits them.
+pub fn put_field(places: i64, decimals: u8, out: &mut [u8; 10]) {
+    let mut rest = places.unsigned_abs();
+    let mut at = 10;
+    *out = [b' '; 10];
+    let mut put = |byte: u8| {
+        at -= 1;
+        out[at] = byte;
+    };
+    if decimals > 0 {
+        for _ in 0..decimals {
+            put(b'0' + (rest % 10) as u8);
+            rest /= 10;
+        }
+        put(b'.');
+    }
+    loop {
+        put(b'0' + (rest % 10) as u8);
+        rest /= 10;
+        if rest == 0 {
+            break;
+        }
+    }
+    if places < 0 {
+        put(b'-');
+    }
+}
+
+/// Digits with at most one point, which has digits on both sides and at most six after it: the number without the point, and its
+/// decimals. The text has at most ten characters, so nothing overflows.
+fn decimal(text: &[u8]) -> Option<(u64, u8)> {
+    let mut value = 0;
+    let mut point = None;
+    for (at, &byte) in text.iter().enumerate() {
+        match byte {
+            b'0'..=b'9' => value = value * 10 + u64::from(byte - b'0'),
+            b'.' if point.is_none() => point = Some(at),
+            _ => return None,
+        }
+    }
+    match point {
+        None if text.is_empty() => None,
+        None => Some((value, 0)),
+        Some(at) => {
+            let decimals = text.len() - at - 1;
+            (at > 0 && (1..=6).contains(&decimals)).then_some((value, decimals as u8))
+        }
+    }
+}
+
+/// A typed number in micrograms, rounded once, a tie upwards; none where it is no number or above every capacity.
+pub fn typed(text: &[u8], unit: Unit) -> Option<u64> {
+    if text.len() > 10 {
+        return None;
+    }
+    let (value, decimals) = decimal(text)?;
+    let divisor = 1000 * POWERS[usize::from(decimals)];
+    // What overflows is above every capacity by far.
+    Some(value.checked_mul(unit.nanograms())?.checked_add(divisor / 2)? / divisor)
+}
+
+/// The number and the decimals of ten characters, if they are written as `put_field` writes them.
+pub fn read_field(field: &[u8; 10]) -> Option<(i64, u8)> {
+    let spaces = field.iter().position(|&byte| byte != b' ')?;
+    let (minus, digits) = match &field[spaces..] {
+        [b'-', digits @ ..] => (true, digits),
+        digits => (false, digits),
+    };
+    if matches!(digits, [b'0', b'0'..=b'9', ..]) {
+        return None;
+    }
+    let (size, decimals) = decimal(digits)?;
+    if minus && size == 0 {
+        return None;
+    }
+    let size = size as i64;
+    Some((if minus { -size } else { size }, decimals))
+}

@@ -1,0 +1,154 @@
+//! The rows of the tables: inputs that grow with a count.
+
+use crate::linked::{proved_calls, proved_lines, proved_rewritten};
+use crate::sides::*;
+use crate::workload::*;
+
+#[derive(Clone, Copy, PartialEq)]
+pub enum Side {
+    Proved,
+    Independent,
+    Fast,
+}
+
+pub const SIDES: [Side; 3] = [Side::Proved, Side::Independent, Side::Fast];
+
+impl Side {
+    pub fn name(self) -> &'static str {
+        match self {
+            Side::Proved => "proved",
+            Side::Independent => "independent",
+            Side::Fast => "fast",
+        }
+    }
+
+    pub fn named(name: &str) -> Side {
+        SIDES.into_iter().find(|side| side.name() == name).expect("a side: proved, independent or fast")
+    }
+}
+
+/// The count that callgrind sees, and ten times as much.
+pub const SMALL: usize = 10;
+
+pub enum Input {
+    Calls(Vec<u8>, Script),
+    Lines(Vec<u8>),
+    Rewritten(Vec<u8>),
+}
+
+pub struct Row {
+    pub name: String,
+    /// How many bytes, samples or lines a count of 1 adds.
+    pub units: usize,
+    /// A power-on goes with each count, and its cost is taken off.
+    pub less_power_on: bool,
+    pub input: Box<dyn Fn(usize) -> Input>,
+}
+
+/// The checksums that one side makes of an input. Callgrind writes what it counted when this returns.
+#[inline(never)]
+pub fn run(side: Side, input: &Input) -> (u64, i64) {
+    let mut out = [0; 256];
+    let mut values = 0;
+    let sum = match (side, input) {
+        (Side::Proved, Input::Calls(profiles, script)) => proved_calls(profiles, &script.0, &mut out),
+        (Side::Independent, Input::Calls(profiles, script)) => independent_calls(profiles, &script.0, &mut out),
+        (Side::Fast, Input::Calls(profiles, script)) => fast_calls(profiles, &script.0, &mut out),
+        (Side::Proved, Input::Lines(lines)) => proved_lines(lines, &mut values),
+        (Side::Independent, Input::Lines(lines)) => independent_lines(lines, &mut values),
+        (Side::Fast, Input::Lines(lines)) => fast_lines(lines, &mut values),
+        (Side::Proved, Input::Rewritten(lines)) => proved_rewritten(lines, &mut out),
+        (Side::Independent, Input::Rewritten(lines)) => independent_rewritten(lines, &mut out),
+        (Side::Fast, Input::Rewritten(lines)) => fast_rewritten(lines, &mut out),
+    };
+    (sum, values)
+}
+
+fn row(name: &str, units: usize, input: impl Fn(usize) -> Input + 'static) -> Row {
+    Row { name: name.to_string(), units, less_power_on: false, input: Box::new(input) }
+}
+
+fn script(fill: impl Fn(&mut Script)) -> Script {
+    let mut script = Script::default();
+    fill(&mut script);
+    script
+}
+
+/// Calls with profile A: a power-on and a stable sample, then the body again and again.
+fn calls(name: &str, units: usize, body: Script) -> Row {
+    row(name, units, move |count| Input::Calls(profile_a(), repeated(count, &body)))
+}
+
+fn line(line: &'static str) -> Row {
+    let body = script(|script| script.line(line.as_bytes()));
+    calls(&format!("line `{line}`, {} bytes", line.len() + 2), 1, body)
+}
+
+fn reads(name: &str, all: Vec<Vec<u8>>) -> Row {
+    row(name, all.len(), move |count| Input::Lines(lines(&all).repeat(count)))
+}
+
+fn rewrites(name: &str, all: Vec<Vec<u8>>) -> Row {
+    row(name, all.len(), move |count| Input::Rewritten(lines(&all).repeat(count)))
+}
+
+fn samples(name: &str, before: &'static [u8]) -> Row {
+    row(name, 100, move |count| {
+        let mut script = repeated(0, &Script::default());
+        script.line(before);
+        for i in 0..100 * count as i32 {
+            script.sample(14_256_050 + i % 1000 * 37, i % 4 != 0);
+        }
+        Input::Calls(profile_a(), script)
+    })
+}
+
+/// Bytes that end no line, up to a power-on.
+fn inner_bytes(name: &str, profile: Vec<u8>) -> Row {
+    let body = script(|script| {
+        script.power_on();
+        for _ in 0..60 {
+            script.byte(b'x');
+        }
+    });
+    let input = move |count| Input::Calls(profile.clone(), repeated(count, &body));
+    Row { less_power_on: true, ..row(name, 60, input) }
+}
+
+/// The first three are the rows whose ratio is judged; their speed and growth are measured too, and those of the fourth.
+pub fn rows() -> Vec<Row> {
+    let bytes = mixed_bytes();
+    vec![
+        calls("bytes, all commands", bytes.len(), bytes),
+        row("samples, idle and repetition", 200, |count| Input::Calls(profile_a(), mixed_samples(100 * count))),
+        reads("lines read, all forms", mixed_lines()),
+        rewrites("lines read and written again", mixed_lines()),
+        calls(POWER_ON, 1, script(Script::power_on)),
+        inner_bytes("byte that ends no line", profile_a()),
+        inner_bytes("the same, texts of 40 and 20 characters", profile_with_texts()),
+        line("S"),
+        line("SI"),
+        line("T"),
+        line("ZI"),
+        line("TA"),
+        line("TA 100.00 g"),
+        line("TAC"),
+        line("D \"pouch 12\""),
+        line("I4"),
+        line("I0"),
+        line("Q"),
+        samples("sample, idle", b""),
+        samples("sample, repetition", b"SIR"),
+        reads("read: weight", weight_lines()),
+        reads("read: status", status_lines()),
+        reads("read: text", text_lines()),
+        reads("read: line of I0", listed_lines()),
+        reads("read: error", error_lines()),
+        reads("read: refused line", refused_lines()),
+    ]
+}
+
+pub const POWER_ON: &str = "power-on";
+
+/// How many rows have their speed and growth measured.
+pub const TIMED: usize = 4;

@@ -1,0 +1,362 @@
+//! The inputs: calls of the module and lines for the reader.
+
+use crate::fast::command::COMMANDS;
+use crate::feed;
+
+/// A small generator of numbers (splitmix64).
+pub struct Rng(pub u64);
+
+impl Rng {
+    fn next(&mut self) -> u64 {
+        self.0 = self.0.wrapping_add(0x9e37_79b9_7f4a_7c15);
+        let mut z = self.0;
+        z = (z ^ (z >> 30)).wrapping_mul(0xbf58_476d_1ce4_e5b9);
+        z = (z ^ (z >> 27)).wrapping_mul(0x94d0_49bb_1331_11eb);
+        z ^ (z >> 31)
+    }
+
+    fn below(&mut self, n: u64) -> u64 {
+        self.next() % n
+    }
+
+    fn chance(&mut self, percent: u64) -> bool {
+        self.below(100) < percent
+    }
+
+    fn between(&mut self, low: i64, high: i64) -> i64 {
+        low + self.below((high - low + 1) as u64) as i64
+    }
+
+    /// Below ten to one power up to `digits`.
+    fn digits(&mut self, digits: u64) -> u64 {
+        let below = 10u64.pow(self.below(digits) as u32 + 1);
+        self.below(below)
+    }
+
+    fn pick<'a, T: ?Sized>(&mut self, from: &[&'a T]) -> &'a T {
+        from[self.below(from.len() as u64) as usize]
+    }
+}
+
+/// The bytes of a profile: C, U, R, W; unit, decimals, step; the texts of I2 to I5.
+pub fn profile(limits: [u32; 4], scale: [u8; 3], texts: [&[u8]; 4]) -> Vec<u8> {
+    let mut bytes: Vec<u8> = limits.iter().flat_map(|limit| limit.to_le_bytes()).collect();
+    bytes.extend(scale);
+    for (text, room) in texts.iter().zip([40, 40, 20, 20]) {
+        bytes.push(text.len() as u8);
+        bytes.extend(*text);
+        bytes.resize(bytes.len() + room - text.len(), b'?');
+    }
+    bytes.push(0);
+    bytes
+}
+
+/// Document 01's profile A.
+pub fn profile_a() -> Vec<u8> {
+    profile([220_000_000, 1_000_000, 4_400_000, 3], [0, 4, 1], [b"", b"", b"VA-0001", b""])
+}
+
+/// The same with the longest texts.
+pub fn profile_with_texts() -> Vec<u8> {
+    profile([220_000_000, 1_000_000, 4_400_000, 3], [0, 4, 1], [&[b'm'; 40], &[b's'; 40], &[b'n'; 20], &[b'i'; 20]])
+}
+
+/// Records of calls.
+#[derive(Clone, Default)]
+pub struct Script(pub Vec<u8>);
+
+impl Script {
+    fn record(&mut self, kind: u8, mark: bool, room: u16, data: [u8; 4]) {
+        let [low, high] = room.to_le_bytes();
+        self.0.extend([kind, mark.into(), low, high]);
+        self.0.extend(data);
+    }
+
+    pub fn byte(&mut self, byte: u8) {
+        self.record(feed::BYTE, false, 256, [byte, 0, 0, 0]);
+    }
+
+    pub fn line(&mut self, line: &[u8]) {
+        for &byte in line {
+            self.byte(byte);
+        }
+        self.byte(13);
+        self.byte(10);
+    }
+
+    pub fn sample(&mut self, load: i32, stable: bool) {
+        self.record(feed::SAMPLE, stable, 256, load.to_le_bytes());
+    }
+
+    pub fn power_on(&mut self) {
+        self.record(feed::POWER_ON, false, 256, [0; 4]);
+    }
+
+    pub fn profile(&mut self, place: u32) {
+        self.record(feed::PROFILE, false, 0, place.to_le_bytes());
+    }
+
+    /// How many records there are.
+    pub fn len(&self) -> usize {
+        self.0.len() / feed::CALL
+    }
+
+    pub fn is_empty(&self) -> bool {
+        self.0.is_empty()
+    }
+
+    fn times(&mut self, count: usize, body: &Script) {
+        for _ in 0..count {
+            self.0.extend(&body.0);
+        }
+    }
+}
+
+/// A power-on and a stable sample, then the body so many times.
+pub fn repeated(count: usize, body: &Script) -> Script {
+    let mut script = Script::default();
+    script.power_on();
+    script.sample(14_256_050, true);
+    script.times(count, body);
+    script
+}
+
+/// Bytes of every command and of the lines that are refused.
+pub fn mixed_bytes() -> Script {
+    let mut script = Script::default();
+    for command in COMMANDS {
+        if command.name() != b"SIR" {
+            script.line(command.name());
+        }
+    }
+    for line in [&b"TA 12.5 g"[..], b"TA 100.00 g", b"TA 1. g", b"D \"pouch 12\"", b"D x", b"S 1", b"Q", b"", b"SIX", b"TAC"] {
+        script.line(line);
+    }
+    script.line(&[b'x'; 65]);
+    script.record(feed::BYTE, true, 256, [b'S', 0, 0, 0]);
+    script.line(b"");
+    script
+}
+
+/// Samples while nothing is asked for, and as many while a repetition runs.
+pub fn mixed_samples(count: usize) -> Script {
+    let loads = |script: &mut Script| {
+        for i in 0..count as i32 {
+            script.sample(14_256_050 + i % 1000 * 37, i % 4 != 0);
+        }
+    };
+    let mut script = repeated(0, &Script::default());
+    loads(&mut script);
+    script.line(b"SIR");
+    loads(&mut script);
+    script
+}
+
+fn any_text(rng: &mut Rng, room: usize) -> Vec<u8> {
+    let length = rng.below(room as u64 + 1) as usize;
+    let byte = |rng: &mut Rng| match rng.between(32, 255) as u8 {
+        b'"' => b'!',
+        byte => byte,
+    };
+    (0..length).map(|_| byte(rng)).collect()
+}
+
+/// Profiles in every unit; some of them are refused.
+pub fn any_profiles(rng: &mut Rng, count: usize) -> Vec<u8> {
+    let mut profiles = profile_a();
+    for _ in 1..count {
+        let capacity = if rng.chance(50) { 220_000_000 >> rng.below(12) } else { rng.between(1, 1_000_000_001) as u32 };
+        let part = |rng: &mut Rng| {
+            let most = i64::from(capacity) + i64::from(rng.chance(2));
+            rng.between(0, most) as u32
+        };
+        let least = i64::from(!rng.chance(3));
+        let limits = [capacity, part(rng), part(rng), rng.between(least, 5) as u32];
+        let scale = [rng.below(7) as u8, rng.below(6) as u8, [1, 2, 5][rng.below(3) as usize]];
+        let texts = [40, 40, 20, 20].map(|room| any_text(rng, room));
+        let [two, three, four, five] = &texts;
+        profiles.extend(profile(limits, scale, [two, three, four, five]));
+        if rng.chance(5) {
+            // A text with a quote, or one that is too long.
+            let at = profiles.len() - 144 + 60;
+            profiles[at] = if rng.chance(50) { 41 } else { 1 };
+            profiles[at + 1] = b'"';
+        }
+    }
+    profiles
+}
+
+const UNITS: [&[u8]; 8] = [b"g", b"mg", b"ct", b"oz", b"ozt", b"GN", b"dwt", b"kg"];
+
+fn any_number(rng: &mut Rng) -> Vec<u8> {
+    let whole = rng.digits(6);
+    let decimals = rng.below(8) as usize;
+    match rng.below(8) {
+        0 => whole.to_string().into_bytes(),
+        1 => format!("{whole}.").into_bytes(),
+        2 => format!(".{whole}").into_bytes(),
+        _ => format!("{whole}.{:0decimals$}", rng.below(10u64.pow(decimals as u32))).into_bytes(),
+    }
+}
+
+fn any_command(rng: &mut Rng) -> Vec<u8> {
+    let name = COMMANDS[rng.below(18) as usize].name();
+    match rng.below(20) {
+        0 => [name, b" "].concat(),
+        1 => [name, b"X"].concat(),
+        2 => (0..rng.below(70)).map(|_| rng.between(0, 255) as u8).collect(),
+        3 => vec![b'x'; rng.between(62, 67) as usize],
+        4..=7 => [&b"TA "[..], &any_number(rng), b" ", rng.pick(&UNITS)].concat(),
+        8..=9 => [b"D \"", &any_text(rng, 22)[..], b"\""].concat(),
+        _ => name.to_vec(),
+    }
+}
+
+fn any_load(rng: &mut Rng) -> i32 {
+    match rng.below(10) {
+        0 => rng.next() as i32,
+        1..=3 => rng.between(-2000, 2000) as i32,
+        4 => rng.between(-5_000_000, 5_000_000) as i32,
+        _ => rng.below(230_000_000) as i32 >> rng.below(12),
+    }
+}
+
+/// A random history: every command, faults, short buffers, waits, repetition, weights in all units. `profiles` is how many there are.
+pub fn any_history(rng: &mut Rng, profiles: usize, calls: usize) -> Script {
+    let mut script = Script::default();
+    script.power_on();
+    let mut room = 256;
+    while script.len() < calls {
+        match rng.below(100) {
+            0 => script.profile(rng.below(profiles as u64) as u32),
+            1..=2 => script.record(feed::POWER_ON, false, room, [0; 4]),
+            3..=9 => room = if rng.chance(60) { 256 } else { rng.below(60) as u16 },
+            10..=49 => script.record(feed::SAMPLE, rng.chance(60), room, any_load(rng).to_le_bytes()),
+            _ => {
+                let faulty = rng.chance(5);
+                for byte in [&any_command(rng)[..], b"\r\n"].concat() {
+                    let marked = faulty && rng.chance(10);
+                    script.record(feed::BYTE, marked, room, [byte, 0, 0, 0]);
+                    if rng.chance(1) {
+                        script.byte(rng.below(256) as u8);
+                    }
+                }
+            }
+        }
+    }
+    script
+}
+
+/// Records of lines.
+pub fn lines(lines: &[Vec<u8>]) -> Vec<u8> {
+    let mut records = Vec::new();
+    for line in lines {
+        let length = line.len().min(feed::LINE - 1);
+        records.push(length as u8);
+        records.extend(&line[..length]);
+        records.resize(records.len() + feed::LINE - 1 - length, 0);
+    }
+    records
+}
+
+pub fn weight_lines() -> Vec<Vec<u8>> {
+    let weights = [
+        "S S    14.2561 g",
+        "S D   220.0000 g",
+        "S S    -1.0000 g",
+        "S S     0.0001 g",
+        "T S    14.2561 g",
+        "TI D  1234.567 ct",
+        "TA A   100.0000 g",
+        "S S 123456789 mg",
+        "S S    1.00000 oz",
+        "TI S 99999.999 dwt",
+        "S D -12345.67 GN",
+        "S S   0.999999 ozt",
+    ];
+    ended(&weights)
+}
+
+pub fn status_lines() -> Vec<Vec<u8>> {
+    ended(&["S +", "S -", "Z A", "ZI S", "ZI D", "Z +", "T -", "TI +", "TAC A", "D A", "DW A", "D L", "TA L", "S I", "I4 I"])
+}
+
+pub fn text_lines() -> Vec<Vec<u8>> {
+    let texts = ["I2 A \"a balance of forty characters, in full!\"", "I3 A \"2.30\"", "I4 A \"VA-0001\"", "I5 A \"\""];
+    ended(&[&texts[..], &["I1 A \"0\" \"2.30\" \"2.20\""]].concat())
+}
+
+pub fn listed_lines() -> Vec<Vec<u8>> {
+    ended(&["I0 B 0 \"I0\"", "I0 B 0 \"SIR\"", "I0 B 0 \"@\"", "I0 B 1 \"TAC\"", "I0 A 1 \"TI\""])
+}
+
+pub fn error_lines() -> Vec<Vec<u8>> {
+    ended(&["ES", "ET", "EL"])
+}
+
+pub fn refused_lines() -> Vec<Vec<u8>> {
+    ended(&[
+        "S S    14.2561 kg",
+        "S S   14.2561 g",
+        "s S    14.2561 g",
+        "S S   -0.0000 g",
+        "SI I",
+        "@ I",
+        "Q A",
+        "",
+        "ES ",
+        "I0 B 1 \"S\"",
+    ])
+}
+
+fn ended(lines: &[&str]) -> Vec<Vec<u8>> {
+    lines.iter().map(|line| [line.as_bytes(), b"\r\n"].concat()).collect()
+}
+
+/// Every kind of line that the reader takes, and some that it refuses.
+pub fn mixed_lines() -> Vec<Vec<u8>> {
+    [weight_lines(), status_lines(), text_lines(), listed_lines(), error_lines(), refused_lines()].concat()
+}
+
+/// Lines with and without damage.
+pub fn any_lines(rng: &mut Rng, count: usize) -> Vec<Vec<u8>> {
+    let good = mixed_lines();
+    let mut all = Vec::new();
+    while all.len() < count {
+        let mut line = match rng.below(3) {
+            0 => any_weight_line(rng),
+            1 => any_status_line(rng),
+            _ => good[rng.below(good.len() as u64) as usize].clone(),
+        };
+        if rng.chance(30) && !line.is_empty() {
+            let at = rng.below(line.len() as u64) as usize;
+            match rng.below(4) {
+                0 => drop(line.remove(at)),
+                1 => line.insert(at, rng.between(0, 255) as u8),
+                2 => line.insert(at, *rng.pick(&[b" ", b"0", b"-", b"."]).first().unwrap_or(&0)),
+                _ => line[at] = rng.between(0, 255) as u8,
+            }
+        }
+        all.push(line);
+    }
+    all
+}
+
+fn any_weight_line(rng: &mut Rng) -> Vec<u8> {
+    let name = rng.pick(&["S", "T", "TI", "TA", "SI"]);
+    let status = rng.pick(&["S", "D", "A", "I"]);
+    let decimals = rng.below(7) as usize;
+    let whole = rng.digits(6);
+    let minus = if rng.chance(20) { "-" } else { "" };
+    let number = match decimals {
+        0 => format!("{minus}{whole}"),
+        _ => format!("{minus}{whole}.{:0decimals$}", rng.below(10u64.pow(decimals as u32))),
+    };
+    let unit = String::from_utf8_lossy(rng.pick(&UNITS)).into_owned();
+    format!("{name} {status} {number:>10} {unit}\r\n").into_bytes()
+}
+
+fn any_status_line(rng: &mut Rng) -> Vec<u8> {
+    let name = COMMANDS[rng.below(18) as usize].name();
+    [name, b" ", rng.pick(&[&b"A"[..], b"B", b"S", b"D", b"I", b"L", b"+", b"-"]), b"\r\n"].concat()
+}

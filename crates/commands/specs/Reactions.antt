@@ -1,4 +1,4 @@
--- Document 01, "What each command does": what a finished line and a sample make of the state, and the answer.
+-- Document 01, "What each command does": what a byte and a sample make of the state, and the answer.
 -- Assumes nothing.
 use Prim.Native.Nat.{ℕ, _+_}
 use mathlib.Core.Bool.{Bool, true, false, cond, _&&_, _||_}
@@ -166,10 +166,7 @@ lineReaction p s =
 unfoldable pub byteReaction : Profile → State → ℕ → Bool → Reaction
 byteReaction p s b bad =
     let r = receivedByte (s .line) b bad in
-    chosenReaction (r .ended)
-    (performed p (withLine s (clearedLine (r .line))) (r .line)
-    (judgement (p .capacity) (p .resolution .unit) (r .line) (isPending (s .waiting .pending)) (s .weighing .sampled)))
-    (reaction (withLine s (r .line)) answers.Nothing)
+    chosenReaction (r .ended) (lineReaction p (withLine s (r .line))) (reaction (withLine s (r .line)) answers.Nothing)
 
 -- one more unstable sample while a command waits: the W-th ends the wait with I
 unfoldable pub waited : Profile → State → Reaction

@@ -11,7 +11,7 @@ use benchmark::workload::{any_history, any_lines, any_profiles, lines, Rng};
 
 /// All sides give the same checksums, on random histories and lines and on the inputs that are measured.
 fn compare() -> usize {
-    let mut rng = Rng(1);
+    let mut rng = Rng::new(1);
     let profiles = any_profiles(&mut rng, 64);
     let history = Input::Calls(profiles, any_history(&mut rng, 64, 1_000_000));
     let all = lines(&any_lines(&mut rng, 100_000));

@@ -2,17 +2,18 @@
 
 use crate::fast::command::COMMANDS;
 use crate::feed;
+use independent::random;
 
-/// A small generator of numbers (splitmix64).
-pub struct Rng(pub u64);
+/// The generator of the independent implementation's histories.
+pub struct Rng(random::Rng);
 
 impl Rng {
+    pub fn new(seed: u64) -> Rng {
+        Rng(random::Rng::new(seed))
+    }
+
     fn next(&mut self) -> u64 {
-        self.0 = self.0.wrapping_add(0x9e37_79b9_7f4a_7c15);
-        let mut z = self.0;
-        z = (z ^ (z >> 30)).wrapping_mul(0xbf58_476d_1ce4_e5b9);
-        z = (z ^ (z >> 27)).wrapping_mul(0x94d0_49bb_1331_11eb);
-        z ^ (z >> 31)
+        self.0.next()
     }
 
     fn below(&mut self, n: u64) -> u64 {

@@ -34,7 +34,7 @@ where
 
 #[test]
 fn histories_are_the_same() {
-    let mut rng = Rng(7);
+    let mut rng = Rng::new(7);
     let profiles = any_profiles(&mut rng, PROFILES);
     let script = any_history(&mut rng, PROFILES, CALLS);
     let mut seen = [0usize; 4];
@@ -59,7 +59,7 @@ fn digest<I: Implementation>(line: &[u8]) -> Option<benchmark::feed::Digest> {
 #[test]
 fn lines_are_the_same() {
     let mut taken = 0;
-    for line in any_lines(&mut Rng(8), LINES) {
+    for line in any_lines(&mut Rng::new(8), LINES) {
         let found = digest::<Fast>(&line);
         assert_eq!(found, digest::<Independent>(&line), "{}", line.escape_ascii());
         taken += usize::from(found.is_some());

@@ -5,9 +5,10 @@ use mathlib.Core.Path.{_≡_, refl, sym, ap, _∙_}
 use mathlib.Core.Bool.{Bool, true, false}
 use Rattle.answer.specs.declared.answer.Answer.the-variants as answers
 use Rattle.model.specs.declared.profile.Profile.{Profile}
-use Rattle.commands.specs.declared.react.Reaction.{Reaction}
+use Rattle.waiting.specs.declared.react.Reaction.{Reaction}
 use Rattle.model.specs.declared.state.State.{State}
-use Rattle.commands.specs.Reactions.{byteReaction, lineReaction, performed, reaction, withLine}
+use Rattle.commands.specs.Reactions.{byteReaction, lineReaction, performed}
+use Rattle.waiting.specs.Waits.{reaction, withLine}
 use Rattle.model.specs.States.{isPending}
 use Rattle.line.specs.declared.judge.Verdict.{Verdict}
 use Rattle.line.specs.declared.judge.Verdict.the-variants.{Refused, Reset, Busy, Wrong, NoSample, Run, Preset, Show}

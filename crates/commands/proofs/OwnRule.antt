@@ -3,18 +3,18 @@
 use Prim.Native.Nat.{ℕ, _≤_, _<_}
 use mathlib.Core.Path.{_≡_}
 use borrow.Author.Tests.{le-leb, lt-leb, eq-eqb, ne-eqb}
-use lib.IntN.{pos}
 use Rattle.answer.specs.declared.answer.Answer.{Answer}
 use Rattle.answer.specs.declared.answer.Answer.the-variants.{Plain}
 use Rattle.answer.specs.declared.answer.Status.the-variants.{A}
 use Rattle.model.specs.declared.profile.Profile.{Profile}
-use Rattle.commands.specs.declared.react.Reaction.{Reaction}
+use Rattle.waiting.specs.declared.react.Reaction.{Reaction}
 use Rattle.model.specs.declared.state.Pending.the-variants.{Tare}
 use Rattle.model.specs.declared.state.State.{State}
-use Rattle.commands.specs.declared.weighing.Measured.{Measured}
+use Rattle.weighing.specs.declared.weighing.Measured.{Measured}
 use Rattle.model.specs.declared.weighing.Weighing.{Weighing}
-use Rattle.commands.specs.Reactions.{begun, informed, measuredReaction, reaction, run, showing, taring, weighing, withWeighing, zeroing}
-use Rattle.commands.specs.Weighings.{headOf, tareAnswer, tared, withTare}
+use Rattle.commands.specs.Reactions.{informed, run, showing, taring, weighing, zeroing}
+use Rattle.waiting.specs.Waits.{begun, measuredReaction, reaction, withWeighing}
+use Rattle.weighing.specs.Weighings.{headOf, tareAnswer, tared, withTare}
 
 module _ (p : Profile) (s : State) (c : ℕ) {r : Reaction} where
   pub run-informed : c ≤ 5 → r ≡ informed s c → r ≡ run p s c
@@ -46,7 +46,7 @@ module _ (p : Profile) (s : State) (c : ℕ) {r : Reaction} where
   taring-at-once t ti m e = rw (e, m, ne-eqb c 14 t, eq-eqb c 17 ti)
 
   pub taring-cleared : {t : State} {w : Weighing} {a : Answer} → (c ≡ 14 → ⊥) → (c ≡ 17 → ⊥) → c ≡ 16
-      → w ≡ withTare (s .weighing) (pos 0) → t ≡ withWeighing s w → a ≡ Plain (headOf 16 A) → r ≡ reaction t a → r ≡ taring p s c
+      → w ≡ withTare (s .weighing) 0 → t ≡ withWeighing s w → a ≡ Plain (headOf 16 A) → r ≡ reaction t a → r ≡ taring p s c
   unfolding taring
   taring-cleared t ti tac w v a e = rw (e, v, w, a, ne-eqb c 14 t, ne-eqb c 17 ti, eq-eqb c 16 tac)
 

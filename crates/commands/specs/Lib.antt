@@ -1,4 +1,2 @@
-pub mod Dues
 pub mod Ranges
 pub mod Reactions
-pub mod Weighings

@@ -4,19 +4,12 @@ ghost use mathlib.Core.Bool.{true};
 ghost use mathlib.Core.List.{_++_};
 ghost use Prim.Native.Nat.{_≤_};
 ghost use lib.ListN.{length, drop};
-ghost use Rattle.commands.specs.Ranges.{InReach, showsShort};
+ghost use Rattle.commands.specs.Ranges.{showsShort};
 ghost use Rattle.commands.specs.Reactions as meaning;
-ghost use Rattle.commands.specs.Weighings as weights;
-use crate::groups::with_display;
-use crate::groups::with_weighing;
-use crate::react::Reaction;
-use crate::react::answered;
+ghost use Rattle.waiting.specs.Waits as waits;
+ghost use Rattle.weighing.specs.Weighings as weights;
 use crate::run::run;
 use crate::run::weight_shown;
-use crate::wait::not_waiting;
-use crate::weighing::plain;
-use crate::weighing::tare_answer;
-use crate::weighing::with_tare;
 use answer::Answer;
 use answer::D;
 use answer::I4;
@@ -26,11 +19,23 @@ use answer::SIR;
 use answer::Status;
 use line::Line;
 use line::Verdict;
+use line::cleared;
+use line::judge_line;
 use model::Display;
 use model::Profile;
 use model::State;
 use model::Text20;
-use weight::Micrograms;
+use model::is_pending;
+use waiting::Reaction;
+use waiting::answered;
+use waiting::not_waiting;
+use waiting::with_display;
+use waiting::with_line;
+use waiting::with_weighing;
+use weighing::plain;
+use weighing::tare_answer;
+use weighing::with_tare;
+use weight::Tare;
 
 // The name's place; for SI and SIR that of S.
 fn identification_of(command: u8) -> u8
@@ -45,7 +50,7 @@ fn identification_of(command: u8) -> u8
 
 // I: a command is waiting, or there is no sample yet.
 fn not_possible(state: State, command: u8) -> Reaction
-    ensures { λ r. ⌜ r ≡ meaning.reaction state (Answer.Plain (weights.headOf (meaning.identificationOf command) Status.I)) ⌝ }
+    ensures { λ r. ⌜ r ≡ waits.reaction state (Answer.Plain (weights.headOf (meaning.identificationOf command) Status.I)) ⌝ }
 {
     answered(state, plain(identification_of(command), Status::I))
 }
@@ -59,7 +64,7 @@ fn reset_state(state: State) -> State
     let display = state.display;
     State {
         line,
-        weighing: with_tare(weighing, Micrograms(0)),
+        weighing: with_tare(weighing, Tare(0)),
         waiting: not_waiting(),
         repeating: false,
         display: weight_shown(display),
@@ -99,7 +104,7 @@ fn text_shown(display: Display, line: Line, len: u8) -> Display
 // D with a text.
 fn show_text(state: State, line: Line, len: u8) -> Reaction
     requires { ⌜ len ≤ 20 ⌝ }
-    ensures { λ r. ⌜ r ≡ meaning.reaction (meaning.withDisplay state (meaning.textShown (state .display) line len)) (Answer.Plain (weights.headOf weights.placeD Status.A)) ⌝ }
+    ensures { λ r. ⌜ r ≡ waits.reaction (waits.withDisplay state (meaning.textShown (state .display) line len)) (Answer.Plain (weights.headOf weights.placeD Status.A)) ⌝ }
 {
     let display = state.display;
     answered(
@@ -109,8 +114,8 @@ fn show_text(state: State, line: Line, len: u8) -> Reaction
 }
 
 // TA with a number.
-fn preset(profile: Profile, state: State, tare: Micrograms) -> Reaction
-    ensures { λ r. ⌜ r ≡ meaning.reaction (meaning.withWeighing state (weights.withTare (state .weighing) (tare .0))) (weights.tareAnswer profile (tare .0)) ⌝ }
+fn preset(profile: Profile, state: State, tare: Tare) -> Reaction
+    ensures { λ r. ⌜ r ≡ waits.reaction (waits.withWeighing state (weights.withTare (state .weighing) (tare .0))) (weights.tareAnswer profile (tare .0)) ⌝ }
 {
     let weighing = state.weighing;
     answered(
@@ -120,8 +125,7 @@ fn preset(profile: Profile, state: State, tare: Micrograms) -> Reaction
 }
 
 // `state` has its line cleared; `line` is the finished one.
-pub fn performed(profile: Profile, state: State, line: Line, verdict: Verdict) -> Reaction
-    requires { ⌜ InReach (state .weighing) ⌝ }
+fn performed(profile: Profile, state: State, line: Line, verdict: Verdict) -> Reaction
     requires { ⌜ showsShort verdict ≡ true ⌝ }
     ensures { λ r. ⌜ r ≡ meaning.performed profile state line verdict ⌝ }
 {
@@ -135,4 +139,24 @@ pub fn performed(profile: Profile, state: State, line: Line, verdict: Verdict) -
         Verdict::Preset(tare) => preset(profile, state, tare),
         Verdict::Show(len) => show_text(state, line, len),
     }
+}
+
+// The line of the state is ended: it is judged, and the next one starts empty.
+pub fn line_reaction(profile: Profile, state: State) -> Reaction
+    ensures { λ r. ⌜ r ≡ meaning.lineReaction profile state ⌝ }
+{
+    let line = state.line;
+    let resolution = profile.resolution;
+    let unit = resolution.unit;
+    let weighing = state.weighing;
+    let waiting = state.waiting;
+    let pending = waiting.pending;
+    let verdict = judge_line(
+        profile.capacity,
+        unit,
+        line,
+        is_pending(pending),
+        weighing.sampled,
+    );
+    performed(profile, with_line(state, cleared(line)), line, verdict)
 }

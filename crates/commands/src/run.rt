@@ -2,22 +2,7 @@
 ghost use mathlib.Core.Path.{_≡_};
 ghost use mathlib.Core.Bool.{cond};
 ghost use lib.Dec.{eqb};
-ghost use Rattle.commands.specs.Ranges.{InReach};
 ghost use Rattle.commands.specs.Reactions as meaning;
-use crate::groups::with_display;
-use crate::groups::with_repeating;
-use crate::groups::with_weighing;
-use crate::react::Reaction;
-use crate::react::answered;
-use crate::react::measured_reaction;
-use crate::wait::begun;
-use crate::weighing::plain;
-use crate::weighing::stability;
-use crate::weighing::tare_answer;
-use crate::weighing::tared;
-use crate::weighing::weighed;
-use crate::weighing::with_tare;
-use crate::weighing::zeroed;
 use answer::Answer;
 use answer::DW;
 use answer::I0;
@@ -34,7 +19,21 @@ use model::Display;
 use model::Pending;
 use model::Profile;
 use model::State;
-use weight::Micrograms;
+use waiting::Reaction;
+use waiting::answered;
+use waiting::begun;
+use waiting::measured_reaction;
+use waiting::with_display;
+use waiting::with_repeating;
+use waiting::with_weighing;
+use weighing::plain;
+use weighing::stability;
+use weighing::tare_answer;
+use weighing::tared;
+use weighing::weighed;
+use weighing::with_tare;
+use weighing::zeroed;
+use weight::Tare;
 
 fn information(command: u8) -> Answer
     ensures { λ r. ⌜ r ≡ cond (eqb command 0) Answer.CommandList (cond (eqb command 1) Answer.Versions (Answer.Text command)) ⌝ }
@@ -57,7 +56,6 @@ fn informed(state: State, command: u8) -> Reaction
 
 // S, SI and SIR: the first two end a repetition, and the third starts one.
 fn run_weighing(profile: Profile, state: State, command: u8) -> Reaction
-    requires { ⌜ InReach (state .weighing) ⌝ }
     ensures { λ r. ⌜ r ≡ meaning.weighing profile state command ⌝ }
 {
     let repeats = command == SIR;
@@ -71,7 +69,6 @@ fn run_weighing(profile: Profile, state: State, command: u8) -> Reaction
 
 // Z and ZI.
 fn run_zeroing(profile: Profile, state: State, command: u8) -> Reaction
-    requires { ⌜ InReach (state .weighing) ⌝ }
     ensures { λ r. ⌜ r ≡ meaning.zeroing profile state command ⌝ }
 {
     if command == ZI {
@@ -101,7 +98,6 @@ fn show_weight(state: State) -> Reaction
 
 // T, TA alone, TAC and TI.
 fn run_taring(profile: Profile, state: State, command: u8) -> Reaction
-    requires { ⌜ InReach (state .weighing) ⌝ }
     ensures { λ r. ⌜ r ≡ meaning.taring profile state command ⌝ }
 {
     let weighing = state.weighing;
@@ -112,7 +108,7 @@ fn run_taring(profile: Profile, state: State, command: u8) -> Reaction
         return measured_reaction(state, tared(profile, weighing, TI));
     }
     if command == TAC {
-        let cleared = with_tare(weighing, Micrograms(0));
+        let cleared = with_tare(weighing, Tare(0));
         return answered(with_weighing(state, cleared), plain(TAC, Status::A));
     }
     let tare = weighing.tare;
@@ -120,7 +116,6 @@ fn run_taring(profile: Profile, state: State, command: u8) -> Reaction
 }
 
 pub fn run(profile: Profile, state: State, command: u8) -> Reaction
-    requires { ⌜ InReach (state .weighing) ⌝ }
     ensures { λ r. ⌜ r ≡ meaning.run profile state command ⌝ }
 {
     if command <= I5 {

@@ -9,7 +9,7 @@ use lib.IntN.{ℤ, pos, negsuc}
 use lib.ListN.{replicate}
 use Rattle.answer.specs.Lines.{lineEnd, headText, weightText, lineOf}
 use Rattle.device.specs.Calls.{answerBytes}
-use Rattle.commands.specs.Weighings.{weighed}
+use Rattle.weighing.specs.Weighings.{weighed}
 use Rattle.model.specs.declared.profile.Profile.{Profile}
 use Rattle.model.specs.declared.profile.Text20.{Text20}
 use Rattle.model.specs.declared.profile.Text40.{Text40}
@@ -72,7 +72,7 @@ profileOf c =
 
 abbrev pub weighingOf : Case → Weighing
 weighingOf c =
-    record { zero = record { 0 = pos 0 }; tare = record { 0 = pos 0 }; sampled = true; load = record { 0 = c .load }; stable = true }
+    record { zero = record { 0 = pos 0 }; tare = record { 0 = 0 }; sampled = true; load = record { 0 = c .load }; stable = true }
 
 -- what the written meaning answers
 unfoldable pub answered : Case → List ℕ

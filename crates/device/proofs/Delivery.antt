@@ -15,10 +15,10 @@ use Rattle.answer.specs.declared.emit.Emitted.{Emitted}
 use Rattle.model.specs.declared.profile.Profile.{Profile}
 use Rattle.model.specs.declared.profile.Text20.{Text20}
 use Rattle.model.specs.declared.profile.Text40.{Text40}
-use Rattle.commands.specs.declared.react.Reaction.{Reaction}
+use Rattle.waiting.specs.declared.react.Reaction.{Reaction}
 use Rattle.model.specs.declared.refusal.Refusal.the-variants as refusals
 use Rattle.model.specs.declared.state.State.{State}
-use Rattle.commands.specs.Reactions.{reaction}
+use Rattle.waiting.specs.Waits.{reaction}
 use Rattle.device.specs.Calls.{identityIn, answerBytes, refusedCall, takenCall, delivered}
 use Rattle.line.specs.Judging.{isPrintable}
 use Rattle.weight.proofs.Allowed.{both-left}

@@ -6,7 +6,7 @@ use mathlib.Core.List.{List}
 use Prim.Native.Nat.{ℕ}
 use Rattle.answer.specs.Lines.{fitsRoom}
 use Rattle.answer.specs.declared.answer.Answer.the-variants.{Text}
-use Rattle.commands.specs.declared.react.Reaction.{Reaction}
+use Rattle.waiting.specs.declared.react.Reaction.{Reaction}
 use Rattle.device.specs.Calls.{
   Outcome,
   numberOfRefusal,
@@ -18,7 +18,8 @@ use Rattle.device.specs.Calls.{
   byteOutcome,
   sampleOutcome,
 }
-use Rattle.commands.specs.Reactions.{byteReaction, sampleReaction}
+use Rattle.commands.specs.Reactions.{byteReaction}
+use Rattle.waiting.specs.Waits.{sampleReaction}
 use Rattle.model.specs.declared.profile.Profile.{Profile}
 use Rattle.model.specs.declared.state.State.{State}
 use Rattle.model.specs.declared.weighing.Load.{Load}

@@ -12,12 +12,13 @@ use Rattle.model.specs.declared.refusal.Refusal.{Refusal}
 use Rattle.model.specs.declared.refusal.Refusal.the-variants as refusals
 use Rattle.device.specs.declared.call.Called.{Called}
 use Rattle.model.specs.declared.profile.Profile.{Profile}
-use Rattle.commands.specs.declared.react.Reaction.{Reaction}
+use Rattle.waiting.specs.declared.react.Reaction.{Reaction}
 use Rattle.model.specs.declared.state.State.{State}
 use Rattle.model.specs.declared.weighing.Load.{Load}
 use Rattle.model.specs.Profiles.{profileAllowed, identityText}
 use Rattle.model.specs.States.{stateAllowed, startState}
-use Rattle.commands.specs.Reactions.{byteReaction, lineReaction, sampleReaction, reaction}
+use Rattle.commands.specs.Reactions.{byteReaction}
+use Rattle.waiting.specs.Waits.{sampleReaction, reaction}
 
 -- the paper's number
 abbrev pub numberOfRefusal : Refusal → ℕ
@@ -25,12 +26,6 @@ numberOfRefusal refusals.None = 0
 numberOfRefusal refusals.Profile = 1
 numberOfRefusal refusals.State = 2
 numberOfRefusal refusals.Room = 3
-
-abbrev pub isRefused : Refusal → Bool
-isRefused refusals.None = false
-isRefused refusals.Profile = true
-isRefused refusals.State = true
-isRefused refusals.Room = true
 
 -- the command whose text goes with an answer; 0, which has none, for every other
 abbrev pub identityIn : Answer → ℕ
@@ -91,17 +86,17 @@ ofState p s room next = chosenOutcome (stateAllowed p s) next (refused refusals.
 unfoldable pub powerOnOutcome : Profile → State → List ℕ → Outcome
 powerOnOutcome p s room = ofProfile p s room (delivered p s (reaction startState (Text 4)) room)
 
--- a byte that ends the line of the state: a law shows that byteOutcome is this for such a byte
-unfoldable pub lineOutcome : Profile → State → List ℕ → Outcome
-lineOutcome p s room = ofProfile p s room (ofState p s room (delivered p s (lineReaction p s) room))
-
 unfoldable pub byteOutcome : Profile → State → ℕ → Bool → List ℕ → Outcome
 byteOutcome p s b bad room = ofProfile p s room (ofState p s room (delivered p s (byteReaction p s b bad) room))
 
 unfoldable pub sampleOutcome : Profile → State → Load → Bool → List ℕ → Outcome
 sampleOutcome p s load stable room = ofProfile p s room (ofState p s room (delivered p s (sampleReaction p s load stable) room))
 
--- ---- what the contracts of the three calls say: the result and the whole buffer at exit, for every input
+-- ---- what the contracts of a delivery and of the three calls say: the result and the whole buffer at exit, for every input
+
+pub record DeliveredCall (p : Profile) (s : State) (q : Reaction) (room : List ℕ) (r : Called) (buffer : List ℕ) : Type 0 where
+  pub returned : r ≡ delivered p s q room .called
+  pub left : buffer ≡ delivered p s q room .buffer
 
 pub record PowerOnCalled (p : Profile) (s : State) (room : List ℕ) (r : Called) (buffer : List ℕ) : Type 0 where
   pub returned : r ≡ powerOnOutcome p s room .called
@@ -114,8 +109,3 @@ pub record ByteCalled (p : Profile) (s : State) (b : ℕ) (bad : Bool) (room : L
 pub record SampleCalled (p : Profile) (s : State) (load : Load) (stable : Bool) (room : List ℕ) (r : Called) (buffer : List ℕ) : Type 0 where
   pub returned : r ≡ sampleOutcome p s load stable room .called
   pub left : buffer ≡ sampleOutcome p s load stable room .buffer
-
--- the same, of the part of the byte call that takes an ended line
-pub record LineCalled (p : Profile) (s : State) (room : List ℕ) (r : Called) (buffer : List ℕ) : Type 0 where
-  pub returned : r ≡ lineOutcome p s room .called
-  pub left : buffer ≡ lineOutcome p s room .buffer

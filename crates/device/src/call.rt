@@ -1,15 +1,13 @@
 // The calls of the module. Each is total and trusts no caller: a profile or state that is not allowed is refused before anything is
-// changed, and a refusal gives the given state back and leaves the buffer as it was. Whether an input can be answered is decided
-// first: most cannot, and they change one group of the state and need no buffer.
+// changed, and a refusal gives the given state back and leaves the buffer as it was. Most inputs are not answered: they change one
+// group of the state and need no buffer.
 ghost use mathlib.Core.Path.{_≡_};
-ghost use Rattle.device.specs.Calls.{isRefused, refusedCall, takenCall, PowerOnCalled, LineCalled, ByteCalled, SampleCalled};
+ghost use mathlib.Core.Bool.{true};
+ghost use Rattle.device.specs.Calls.{refusedCall, takenCall, DeliveredCall, PowerOnCalled, ByteCalled, SampleCalled};
+ghost use Rattle.model.specs.Profiles.{profileAllowed};
 use crate::deliver::emit_due;
 use answer::Answer;
-use commands::is_awaited;
-use commands::line_due;
-use commands::sample_due;
-use commands::sampled;
-use commands::with_line;
+use commands::line_reaction;
 use line::receive_byte;
 use model::Load;
 use model::Profile;
@@ -18,6 +16,12 @@ use model::State;
 use model::is_profile_allowed;
 use model::is_state_allowed;
 use model::start_state;
+use waiting::Reaction;
+use waiting::answered;
+use waiting::is_awaited;
+use waiting::sample_reaction;
+use waiting::sampled;
+use waiting::with_line;
 
 pub struct Called {
     pub refusal: Refusal,
@@ -25,17 +29,6 @@ pub struct Called {
     pub state: State,
     // How many bytes of the buffer are the answer.
     pub count: usize,
-}
-
-fn is_refused(refusal: Refusal) -> bool
-    ensures { λ r. ⌜ r ≡ isRefused refusal ⌝ }
-{
-    match refusal {
-        Refusal::None => false,
-        Refusal::Profile => true,
-        Refusal::State => true,
-        Refusal::Room => true,
-    }
 }
 
 fn refused(refusal: Refusal, given: State) -> Called
@@ -58,6 +51,20 @@ fn taken(state: State, count: usize) -> Called
     }
 }
 
+// The answer that is due goes into the buffer, or the call is refused for want of room.
+fn deliver(profile: Profile, given: State, reaction: Reaction, out: &mut [u8]) -> Called
+    requires { ⌜ profileAllowed profile ≡ true ⌝ }
+    ensures { λ r. ⌜ DeliveredCall profile given reaction (now (out .entry)) r (now (out .exit)) ⌝ }
+{
+    let answer = reaction.answer;
+    let emitted = emit_due(profile, answer, out);
+    if emitted.fits {
+        let after = reaction.state;
+        return taken(after, emitted.count);
+    }
+    refused(Refusal::Room, given)
+}
+
 // Power on: the earlier state is only handed back with a refusal.
 pub fn power_on(profile: Profile, earlier: State, out: &mut [u8]) -> Called
     ensures { λ r. ⌜ PowerOnCalled profile earlier (now (out .entry)) r (now (out .exit)) ⌝ }
@@ -65,68 +72,27 @@ pub fn power_on(profile: Profile, earlier: State, out: &mut [u8]) -> Called
     if !is_profile_allowed(profile) {
         return refused(Refusal::Profile, earlier);
     }
-    let emitted = emit_due(profile, Answer::Text(answer::I4), out);
-    if emitted.fits {
-        return taken(start_state(), emitted.count);
-    }
-    refused(Refusal::Room, earlier)
-}
-
-// The line of the state is ended: judged and answered.
-fn take_line(profile: Profile, state: State, out: &mut [u8]) -> Called
-    ensures { λ r. ⌜ LineCalled profile state (now (out .entry)) r (now (out .exit)) ⌝ }
-{
-    let due = line_due(profile, state);
-    let refusal = due.refusal;
-    if is_refused(refusal) {
-        return refused(refusal, state);
-    }
-    let reaction = due.reaction;
-    let answer = reaction.answer;
-    let emitted = emit_due(profile, answer, out);
-    if emitted.fits {
-        let after = reaction.state;
-        return taken(after, emitted.count);
-    }
-    refused(Refusal::Room, state)
+    let started = answered(start_state(), Answer::Text(answer::I4));
+    deliver(profile, earlier, started, out)
 }
 
 // A received byte, with its mark.
 pub fn take_byte(profile: Profile, state: State, byte: u8, faulty: bool, out: &mut [u8]) -> Called
     ensures { λ r. ⌜ ByteCalled profile state byte faulty (now (out .entry)) r (now (out .exit)) ⌝ }
 {
-    let before = state.line;
-    let received = receive_byte(before, byte, faulty);
-    if received.ended {
-        return take_line(profile, state, out);
-    }
     if !is_profile_allowed(profile) {
         return refused(Refusal::Profile, state);
     }
     if !is_state_allowed(profile, state) {
         return refused(Refusal::State, state);
     }
+    let before = state.line;
+    let received = receive_byte(before, byte, faulty);
+    if received.ended {
+        return deliver(profile, state, line_reaction(profile, state), out);
+    }
     let line = received.line;
     taken(with_line(state, line), 0)
-}
-
-// A sample that a waiting command or a repetition awaits: it may be answered.
-fn take_awaited(profile: Profile, state: State, load: Load, stable: bool, out: &mut [u8]) -> Called
-    ensures { λ r. ⌜ SampleCalled profile state load stable (now (out .entry)) r (now (out .exit)) ⌝ }
-{
-    let due = sample_due(profile, state, load, stable);
-    let refusal = due.refusal;
-    if is_refused(refusal) {
-        return refused(refusal, state);
-    }
-    let reaction = due.reaction;
-    let answer = reaction.answer;
-    let emitted = emit_due(profile, answer, out);
-    if emitted.fits {
-        let after = reaction.state;
-        return taken(after, emitted.count);
-    }
-    refused(Refusal::Room, state)
 }
 
 // A load sample, with its mark.
@@ -139,14 +105,15 @@ pub fn take_sample(
 ) -> Called
     ensures { λ r. ⌜ SampleCalled profile state load stable (now (out .entry)) r (now (out .exit)) ⌝ }
 {
-    if is_awaited(state) {
-        return take_awaited(profile, state, load, stable, out);
-    }
     if !is_profile_allowed(profile) {
         return refused(Refusal::Profile, state);
     }
     if !is_state_allowed(profile, state) {
         return refused(Refusal::State, state);
+    }
+    if is_awaited(state) {
+        let reaction = sample_reaction(profile, state, load, stable);
+        return deliver(profile, state, reaction, out);
     }
     taken(sampled(state, load, stable), 0)
 }

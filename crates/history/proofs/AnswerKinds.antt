@@ -18,7 +18,7 @@ use Rattle.answer.specs.Commands.{names}
 use Rattle.answer.proofs.Names.{at-name}
 use Rattle.answer.specs.Lines.{lineEnd, statusText, headText, listedLine, listedFrom, lineOf}
 use Rattle.model.specs.declared.profile.Profile.{Profile}
-use Rattle.commands.specs.Weighings.{headOf, placeS, placeZ, placeZI, placeD, placeDW, placeT, placeTA, placeTAC, placeTI}
+use Rattle.weighing.specs.Weighings.{headOf, placeS, placeZ, placeZI, placeD, placeDW, placeT, placeTA, placeTAC, placeTI}
 use Rattle.device.specs.Calls.{answerBytes}
 use Rattle.weight.specs.Ascii.{ascii}
 use Rattle.history.specs.Tally.{grantsZero, grantsTare, grantsClear, tellsTare, tellsNet}

@@ -1,18 +1,19 @@
 -- One law for each kind of answer: the tally accepts it, and follows the weighing that the device goes on with. Used both where
 -- a line ends and where a sample ends a wait.
 -- Assumes nothing.
-use Prim.Native.Nat.{ℕ}
+use Prim.Native.Nat.{ℕ, _≤_}
 use mathlib.Core.Path.{_≡_, refl}
 use mathlib.Core.Bool.{Bool, true, false, _||_}
 use mathlib.Core.List.{List}
-use lib.IntN.{ℤ, pos, negℤ}
+use lib.IntN.{ℤ, pos, negℤ, natAbs}
 use lib.Signed.{ltZ}
 use Rattle.answer.specs.declared.answer.Answer.the-variants.{Plain, Weight}
 use Rattle.answer.specs.declared.answer.Status.{Status}
 use Rattle.answer.specs.declared.answer.Status.the-variants.{A, Over, Under}
 use Rattle.model.specs.declared.profile.Profile.{Profile}
 use Rattle.model.specs.declared.weighing.Weighing.{Weighing}
-use Rattle.commands.specs.Weighings.{placeS, placeTAC, headOf, stability, grossOf, netOf, numberOf, inLimits, chosenWeighing, weighed, zeroed, tared, withZero, withTare, tareAnswer}
+use Rattle.weighing.proofs.Reach.{between}
+use Rattle.weighing.specs.Weighings.{placeS, placeTAC, headOf, stability, grossOf, netOf, numberOf, inLimits, chosenWeighing, weighed, zeroed, tared, withZero, withTare, tareAnswer}
 use Rattle.device.specs.Calls.{answerBytes}
 use Rattle.model.specs.Profiles.{profileAllowed}
 use Rattle.weight.specs.Ascii.{ascii, sameText}
@@ -23,7 +24,7 @@ use Rattle.model.proofs.ProfileFacts.{allowed-profile}
 use Rattle.weight.proofs.Nearness.{near-refl}
 use Rattle.history.specs.Tally.{Tally, Input, taken, ends, endedText, typedText, typedTare, afterReset, tallied, holds}
 use Rattle.history.proofs.AnswerKinds.{Silent, Zeroes, Tares, Weighs, denied-silent, weighed-weighs, cleared-clears, told-tells}
-use Rattle.history.proofs.DueWeights.{InCapacity, net-printable, gross-printable, tare-printable}
+use Rattle.history.proofs.DueWeights.{net-printable, gross-printable, tare-printable}
 use Rattle.history.proofs.Following.{Follows, is-loaded, latest-is, gross-is, net-near, tare-near}
 use Rattle.history.proofs.Tallying.{after-silent, after-zeroes, after-tares, after-clears, after-typed, after-told, after-weighs, silent-holds, zeroes-holds, clears-holds, weighs-holds, tares-holds, told-holds, typed-holds}
 use Rattle.history.proofs.WaitsAnswer.{in-limits}
@@ -81,7 +82,7 @@ module _ (p : Profile) (t : Tally) (i : Input) (w : Weighing) (not-reset : after
 
   -- ---- TAC
 
-  pub answered-cleared : Answered p t i (withTare w (pos 0)) (answerBytes p (Plain (headOf placeTAC A)))
+  pub answered-cleared : Answered p t i (withTare w 0) (answerBytes p (Plain (headOf placeTAC A)))
   answered-cleared =
       record {
         accepted = clears-holds p t i _ (cleared-clears p);
@@ -112,7 +113,7 @@ module _ (p : Profile) (t : Tally) (i : Input) (w : Weighing) (not-reset : after
 
     -- S, SI, SIR
     pub answered-weighed
-        : InCapacity (p .capacity) (w .tare .0)
+        : w .tare .0 ≤ p .capacity
         → w .sampled ≡ true
         → Answered p t i w (answerBytes p (weighed p w))
     unfolding weighed
@@ -126,22 +127,28 @@ module _ (p : Profile) (t : Tally) (i : Input) (w : Weighing) (not-reset : after
         (weighed-shows p (netOf w) (net-printable p allowed (grossOf w) (w .tare .0) o u range) (w .stable))
         sampled)
 
-    -- the tare becomes gross
-    tare-followed : (l : List ℕ) → Tares l → w .sampled ≡ true → Follows (withTare w (grossOf w)) (tallied p t i l)
-    tare-followed l k sampled =
-        rw (after-tares p t i l k, not-reset)
-        (record { latest = f .latest; zero = f .zero; tare = rw (gross-is w (taken t i) f sampled) (near-refl 0 (exactFemtograms (grossOf w))) })
+    -- the tare becomes gross, which has no sign
+    module _ (l : List ℕ) (k : Tares l) (sampled : w .sampled ≡ true) (natural : pos (natAbs (grossOf w)) ≡ grossOf w) where
+      tare-followed : Follows (withTare w (natAbs (grossOf w))) (tallied p t i l)
+      tare-followed =
+          rw (after-tares p t i l k, not-reset)
+          (record {
+            latest = f .latest;
+            zero = f .zero;
+            tare = rw (natural, gross-is w (taken t i) f sampled) (near-refl 0 (exactFemtograms (grossOf w)));
+          })
 
-    tare-granted : (l : List ℕ) → Tares l → Shows p (grossOf w) l → w .sampled ≡ true → Answered p t i (withTare w (grossOf w)) l
-    tare-granted l k s sampled =
-        record {
-          accepted =
-              tares-holds p t i l (grossOf w) s
-              (rw (k .net-is) (tare-near p (allowed-profile p allowed .resolution) (withTare w (grossOf w)) (tallied p t i l) (tare-followed l k sampled)))
-              k
-              (is-loaded w (taken t i) f sampled);
-          follows = tare-followed l k sampled;
-        }
+      tare-granted : Shows p (grossOf w) l → Answered p t i (withTare w (natAbs (grossOf w))) l
+      tare-granted s =
+          record {
+            accepted =
+                tares-holds p t i l (grossOf w) s
+                (rw (k .net-is)
+                (rw natural at (tare-near p (allowed-profile p allowed .resolution) (withTare w (natAbs (grossOf w))) (tallied p t i l) tare-followed)))
+                k
+                (is-loaded w (taken t i) f sampled);
+            follows = tare-followed;
+          }
 
     -- by the two tests of T
     tared-by
@@ -151,11 +158,12 @@ module _ (p : Profile) (t : Tally) (i : Input) (w : Weighing) (not-reset : after
         → Tares (answerBytes p (Weight (headOf c (stability w)) (numberOf p (grossOf w))))
         → (printable (p .resolution) (grossOf w) ≡ true → Shows p (grossOf w) (answerBytes p (Weight (headOf c (stability w)) (numberOf p (grossOf w)))))
         → w .sampled ≡ true
-        → Answered p t i (chosenWeighing (over || under) w (withTare w (grossOf w)))
+        → Answered p t i (chosenWeighing (over || under) w (withTare w (natAbs (grossOf w))))
         (answerBytes p (inLimits c over under (Weight (headOf c (stability w)) (numberOf p (grossOf w)))))
     tared-by true under c o u k s sampled = answered-quietly _ (denied-silent p c Over refl)
     tared-by false true c o u k s sampled = answered-quietly _ (denied-silent p c Under refl)
-    tared-by false false c o u k s sampled = tare-granted _ k (s (gross-printable p allowed (grossOf w) o u)) sampled
+    tared-by false false c o u k s sampled =
+        tare-granted _ k sampled (between (grossOf w) (p .capacity) o u .0) (s (gross-printable p allowed (grossOf w) o u))
 
     -- T, TI
     pub answered-tared
@@ -171,16 +179,16 @@ module _ (p : Profile) (t : Tally) (i : Input) (w : Weighing) (not-reset : after
     pub answered-told
         : ends t i ≡ true
         → sameText (endedText t i) (ascii "TA") ≡ true
-        → InCapacity (p .capacity) (w .tare .0)
+        → w .tare .0 ≤ p .capacity
         → Answered p t i w (answerBytes p (tareAnswer p (w .tare .0)))
     answered-told end alone range =
-        let k = told-tells p (numberOf p (w .tare .0)) in
+        let k = told-tells p (numberOf p (pos (w .tare .0))) in
         let l = answerBytes p (tareAnswer p (w .tare .0)) in
         let g : Follows w (tallied p t i l) = rw (after-told p t i l k alone, not-reset) f in
         record {
           accepted =
-              told-holds p t i l (w .tare .0)
-              (told-shows p (w .tare .0) (tare-printable p allowed (w .tare .0) range))
+              told-holds p t i l (pos (w .tare .0))
+              (told-shows p (pos (w .tare .0)) (tare-printable p allowed (w .tare .0) range))
               (rw (k .net-is) (tare-near p (allowed-profile p allowed .resolution) w (tallied p t i l) g))
               k
               end
@@ -190,22 +198,22 @@ module _ (p : Profile) (t : Tally) (i : Input) (w : Weighing) (not-reset : after
 
     -- TA number unit
     pub answered-typed
-        : (m : ℤ)
+        : (m : ℕ)
         → ends t i ≡ true
         → sameText (endedText t i) (ascii "TA") ≡ false
         → isDecimal (typedText (endedText t i)) ≡ true
-        → Near 1_000_000_000 (exactFemtograms m) (typedTare p (endedText t i))
-        → InCapacity (p .capacity) m
+        → Near 1_000_000_000 (exactFemtograms (pos m)) (typedTare p (endedText t i))
+        → m ≤ p .capacity
         → Answered p t i (withTare w m) (answerBytes p (tareAnswer p m))
     answered-typed m end other decimal off range =
-        let k = told-tells p (numberOf p m) in
+        let k = told-tells p (numberOf p (pos m)) in
         let l = answerBytes p (tareAnswer p m) in
         let g : Follows (withTare w m) (tallied p t i l) =
         rw (after-typed p t i l k other, not-reset) (record { latest = f .latest; zero = f .zero; tare = off }) in
         record {
           accepted =
-              typed-holds p t i l m
-              (told-shows p m (tare-printable p allowed m range))
+              typed-holds p t i l (pos m)
+              (told-shows p (pos m) (tare-printable p allowed m range))
               (rw (k .net-is) (tare-near p (allowed-profile p allowed .resolution) (withTare w m) (tallied p t i l) g))
               k
               end

@@ -1,6 +1,6 @@
 -- The host reads every answer that a finished line or a sample gives.
 -- Assumes nothing.
-use Prim.Native.Nat.{ℕ, zero, suc, _+_, _<_}
+use Prim.Native.Nat.{ℕ, zero, suc, _+_, _<_, _≤_}
 use native.Mathlib.Omega.{arith}
 use mathlib.Core.Path.{_≡_, refl, sym, _∙_}
 use mathlib.Core.Bool.{Bool, true, false, cond, _&&_, _||_, or-true, true≢false, false≢true}
@@ -17,19 +17,21 @@ use Rattle.answer.specs.declared.answer.Status.the-variants.{A, S, D, I, L, Ove
 use Rattle.model.specs.declared.profile.Profile.{Profile}
 use Rattle.model.specs.declared.profile.Text20.{Text20}
 use Rattle.model.specs.declared.profile.Text40.{Text40}
-use Rattle.commands.specs.declared.react.Reaction.{Reaction}
+use Rattle.waiting.specs.declared.react.Reaction.{Reaction}
 use Rattle.model.specs.declared.state.Pending.{Pending}
 use Rattle.model.specs.declared.state.Pending.the-variants.{Nothing, Weigh, Zero, Tare}
 use Rattle.model.specs.declared.state.State.{State}
 use Rattle.model.specs.declared.weighing.Load.{Load}
 use Rattle.model.specs.declared.weighing.Weighing.{Weighing}
 use Rattle.model.specs.Profiles.{profileAllowed, textOf20, textOf40, textAllowed20, textAllowed40}
-use Rattle.commands.specs.Reactions.{withLine, withRepeating, placeOfPending, settled, begun, weighing, zeroing, taring, run, identificationOf, performed, byteReaction, waited, sampleReaction}
+use Rattle.commands.specs.Reactions.{weighing, zeroing, taring, run, identificationOf, performed, byteReaction}
+use Rattle.waiting.specs.Waits.{withLine, withRepeating, placeOfPending, settled, begun, waited, sampleReaction}
 use Rattle.model.specs.States.{isPending}
-use Rattle.commands.specs.Weighings.{placeS, placeZ, placeZI, placeDW, placeT, placeTA, placeTAC, placeTI, headOf, stability, grossOf, netOf, numberOf, weighed, withSample, zeroed, tared, tareAnswer}
+use Rattle.weighing.proofs.Reach.{not-negative}
+use Rattle.weighing.specs.Weighings.{placeS, placeZ, placeZI, placeDW, placeT, placeTA, placeTAC, placeTI, headOf, stability, grossOf, netOf, numberOf, weighed, withSample, zeroed, tared, tareAnswer}
 use Rattle.model.proofs.ProfileFacts.{AllowedProfile, allowed-profile, text-short}
 use Rattle.history.proofs.AnswerKinds.{Tests, weighed-weighs, tared-tares, tared-now-tares, told-tells}
-use Rattle.history.proofs.DueWeights.{InCapacity, not-below, net-printable, gross-printable, tare-printable}
+use Rattle.history.proofs.DueWeights.{net-printable, gross-printable, tare-printable}
 use Rattle.history.proofs.HostReads.{ReadByHost, nothing-read, list-read, plain-read, refused-read, versions-read, text-read, weight-read}
 use Rattle.history.proofs.WaitsAnswer.{in-limits}
 use Rattle.history.proofs.WaitsAllowed.{by-choice}
@@ -96,11 +98,6 @@ unfolding placesOf stepsOf roundAway
 natural-printed r (pos m) e = refl
 natural-printed r (negsuc m) e = absurd (false≢true e)
 
--- at least 0 is not below zero
-from-zero : (w : ℤ) → leZ (pos 0) w ≡ true → nonNeg w ≡ true
-from-zero (pos m) e = refl
-from-zero (negsuc m) e = e
-
 -- the tally takes for weights: S S, S D
 net-weight : {zero tare clear told : Bool} (l : List ℕ) → Tests zero tare clear told true l → isWeightAnswer l ≡ true
 net-weight l k = rw (k .net-is)
@@ -134,14 +131,14 @@ module _ (p : Profile) (allowed : profileAllowed p ≡ true) where
       weight-read p w fits placeT S refl (natural-printed (p .resolution) w sign) (tare-weight _ (tared-tares p (numberOf p w))) (tared-shows p w fits)
 
   -- TA
-  told-read : (w : ℤ) → InCapacity (p .capacity) w → ReadByHost p (tareAnswer p w)
-  told-read w range =
-      let fits = tare-printable p allowed w range in
-      weight-read p w fits placeTA A refl (natural-printed (p .resolution) w (from-zero w (range .least))) (told-weight _ (told-tells p (numberOf p w))) (told-shows p w fits)
+  told-read : (n : ℕ) → n ≤ p .capacity → ReadByHost p (tareAnswer p n)
+  told-read n range =
+      let fits = tare-printable p allowed n range in
+      weight-read p (pos n) fits placeTA A refl (natural-printed (p .resolution) (pos n) refl) (told-weight _ (told-tells p (numberOf p (pos n)))) (told-shows p (pos n) fits)
 
 -- ---- S, Z and T
 
-module _ (p : Profile) (allowed : profileAllowed p ≡ true) (w : Weighing) (range : InCapacity (p .capacity) (w .tare .0)) where
+module _ (p : Profile) (allowed : profileAllowed p ≡ true) (w : Weighing) (range : w .tare .0 ≤ p .capacity) where
   -- S, SI, SIR
   weighed-read : ReadByHost p (weighed p w)
   unfolding weighed
@@ -171,7 +168,7 @@ module _ (p : Profile) (allowed : profileAllowed p ≡ true) (w : Weighing) (ran
       in-limits (ReadByHost p) c (ltZ (pos (p .capacity)) (grossOf w)) (ltZ (grossOf w) (pos 0)) (Weight (headOf c (stability w)) (numberOf p (grossOf w)))
       (plain-read p c Over o)
       (plain-read p c Under u)
-      (λ over under. h (gross-printable p allowed (grossOf w) over under) (from-zero (grossOf w) (not-below (grossOf w) (pos 0) under)))
+      (λ over under. h (gross-printable p allowed (grossOf w) over under) (not-negative (grossOf w) refl under))
 
   -- what a waiting command answers at a stable sample
   settled-read : (pending : Pending) → w .stable ≡ true → ReadByHost p (settled p pending w .answer)
@@ -191,7 +188,7 @@ stability-form false = refl
 abbrev ReadIn : Profile → Reaction → Type 0
 ReadIn p r = ReadByHost p (r .answer)
 
-module _ (p : Profile) (allowed : profileAllowed p ≡ true) (s : State) (range : InCapacity (p .capacity) (s .weighing .tare .0)) where
+module _ (p : Profile) (allowed : profileAllowed p ≡ true) (s : State) (range : s .weighing .tare .0 ≤ p .capacity) where
   -- judged at once, or waiting without an answer
   begun-read : (pending : Pending) → ReadIn p (begun p s pending)
   unfolding begun
@@ -200,7 +197,7 @@ module _ (p : Profile) (allowed : profileAllowed p ≡ true) (s : State) (range 
       (λ e. settled-read p allowed (s .weighing) range pending (both-right (s .weighing .sampled) (s .weighing .stable) e))
       (λ e. nothing-read p)
 
-module _ (p : Profile) (allowed : profileAllowed p ≡ true) (s : State) (range : InCapacity (p .capacity) (s .weighing .tare .0)) (c : ℕ) where
+module _ (p : Profile) (allowed : profileAllowed p ≡ true) (s : State) (range : s .weighing .tare .0 ≤ p .capacity) (c : ℕ) where
   -- S, SI, SIR
   weighing-read : ReadIn p (weighing p s c)
   unfolding weighing
@@ -255,7 +252,7 @@ Named p (Busy c) = plainForm (identificationOf c) I ≡ true
 Named p (Wrong c) = plainForm c L ≡ true
 Named p (NoSample c) = plainForm (identificationOf c) I ≡ true
 Named p (Run c) = Unit
-Named p (Preset m) = InCapacity (p .capacity) (m .0)
+Named p (Preset m) = m .0 ≤ p .capacity
 Named p (Show n) = Unit
 
 -- every name but @ has an answer with I, by its identification
@@ -286,7 +283,7 @@ verdict-named p f waiting sampled l held (Preset m) h =
     verdict-proper (p .capacity) (p .resolution .unit) f waiting sampled l held (Preset m) h
 verdict-named p f waiting sampled l held (Show n) h = tt
 
-module _ (p : Profile) (allowed : profileAllowed p ≡ true) (s : State) (range : InCapacity (p .capacity) (s .weighing .tare .0)) where
+module _ (p : Profile) (allowed : profileAllowed p ≡ true) (s : State) (range : s .weighing .tare .0 ≤ p .capacity) where
   -- what each verdict answers
   performed-read : (l : Line) (v : Verdict) → Named p v → ReadIn p (performed p s l v)
   performed-read l (Refused e) named = refused-read p e
@@ -300,7 +297,7 @@ module _ (p : Profile) (allowed : profileAllowed p ≡ true) (s : State) (range 
 
 -- ---- a byte
 
-module _ (p : Profile) (allowed : profileAllowed p ≡ true) (s : State) (range : InCapacity (p .capacity) (s .weighing .tare .0)) (u : List Marked) (keeps : Keeps (s .line) u) where
+module _ (p : Profile) (allowed : profileAllowed p ≡ true) (s : State) (range : s .weighing .tare .0 ≤ p .capacity) (u : List Marked) (keeps : Keeps (s .line) u) where
   -- the answer to a byte
   pub byte-read : (b : ℕ) (bad : Bool) → ReadIn p (byteReaction p s b bad)
   unfolding byteReaction
@@ -324,7 +321,7 @@ pending-form Weigh = refl
 pending-form Zero = refl
 pending-form Tare = refl
 
-module _ (p : Profile) (allowed : profileAllowed p ≡ true) (s : State) (range : InCapacity (p .capacity) (s .weighing .tare .0)) (z : Load) where
+module _ (p : Profile) (allowed : profileAllowed p ≡ true) (s : State) (range : s .weighing .tare .0 ≤ p .capacity) (z : Load) where
   -- the SI answer while a repetition runs
   repeated-read : (repeating stable : Bool) → ReadByHost p (cond repeating (weighed p (withSample (s .weighing) z stable)) answers.Nothing)
   repeated-read true stable = weighed-read p allowed (withSample (s .weighing) z stable) range

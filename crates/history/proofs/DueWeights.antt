@@ -5,7 +5,7 @@ use native.Mathlib.Omega.{arith}
 use mathlib.Core.Path.{_≡_, refl}
 use mathlib.Core.Bool.{true, false, true≢false, false≢true}
 use borrow.Author.Tests.{leb-true, le-leb, ltb-false}
-use lib.IntN.{ℤ, pos, negsuc, negℤ, _-ℤ_}
+use lib.IntN.{ℤ, pos, negsuc, negℤ, natAbs, _-ℤ_}
 use lib.Signed.{leZ, ltZ}
 use Rattle.model.specs.declared.profile.Profile.{Profile}
 use Rattle.model.specs.declared.state.State.{State}
@@ -13,6 +13,7 @@ use Rattle.model.specs.Profiles.{profileAllowed}
 use Rattle.model.specs.States.{stateAllowed}
 use Rattle.model.proofs.Nets.{nets-printable}
 use Rattle.model.proofs.StateFacts.{allowed-state}
+use Rattle.weighing.proofs.Reach.{between}
 use Rattle.weight.specs.Printing.{printable}
 use Rattle.weight.proofs.Nearness.{up, down, up-pos, down-pos, up-negated, down-negated, difference-parts}
 
@@ -43,55 +44,51 @@ not-below (negsuc a) (negsuc b) e = le-leb a b (ltb-false b a e)
 
 -- ---- the weights of an allowed profile and state
 
--- from 0 to C
-pub record InCapacity (capacity : ℕ) (z : ℤ) : Type 0 where
-  pub least : leZ (pos 0) z ≡ true
-  pub most : leZ z (pos capacity) ≡ true
-
--- the tare of an allowed state is
-pub tare-range : (p : Profile) (s : State) → stateAllowed p s ≡ true → InCapacity (p .capacity) (s .weighing .tare .0)
-tare-range p s allowed = let a = allowed-state p s allowed in record { least = a .tare-least; most = a .tare-most }
+-- the tare of an allowed state is from 0 to C
+pub tare-range : (p : Profile) (s : State) → stateAllowed p s ≡ true → s .weighing .tare .0 ≤ p .capacity
+tare-range p s allowed = allowed-state p s allowed .tare
 
 module _ (p : Profile) (allowed : profileAllowed p ≡ true) where
   -- a tare in its range
-  pub tare-printable : (tare : ℤ) → InCapacity (p .capacity) tare → printable (p .resolution) tare ≡ true
+  pub tare-printable : (tare : ℕ) → tare ≤ p .capacity → printable (p .resolution) (pos tare) ≡ true
   tare-printable tare range =
       let lowest = p .underload + p .capacity in
-      nets-printable p allowed tare
-      (parts-le (negℤ (pos lowest)) tare
+      nets-printable p allowed (pos tare)
+      (parts-le (negℤ (pos lowest)) (pos tare)
       (omega (
         arith,
-        le-parts (pos 0) tare (range .least),
         up-negated (pos lowest),
         down-negated (pos lowest),
         up-pos lowest,
         down-pos lowest,
-        up-pos 0,
-        down-pos 0,
+        up-pos tare,
+        down-pos tare,
       )))
-      (range .most)
+      (le-leb tare (p .capacity) range)
 
   -- a gross that neither T nor TI refuses
   pub gross-printable : (gross : ℤ) → ltZ (pos (p .capacity)) gross ≡ false → ltZ gross (pos 0) ≡ false → printable (p .resolution) gross ≡ true
   gross-printable gross over under =
-      tare-printable gross (record { least = not-below gross (pos 0) under; most = not-below (pos (p .capacity)) gross over })
+      let natural = between gross (p .capacity) over under in
+      rw (natural .0) at (tare-printable (natAbs gross) (natural .1))
 
   -- a net of a gross that S does not refuse, with a tare in its range
   pub net-printable
-      : (gross tare : ℤ)
+      : (gross : ℤ) (tare : ℕ)
       → ltZ (pos (p .capacity)) gross ≡ false
       → ltZ gross (negℤ (pos (p .underload))) ≡ false
-      → InCapacity (p .capacity) tare
-      → printable (p .resolution) (gross -ℤ tare) ≡ true
+      → tare ≤ p .capacity
+      → printable (p .resolution) (gross -ℤ pos tare) ≡ true
   net-printable gross tare over under range =
       let lowest = p .underload + p .capacity in
-      nets-printable p allowed (gross -ℤ tare)
-      (parts-le (negℤ (pos lowest)) (gross -ℤ tare)
+      nets-printable p allowed (gross -ℤ pos tare)
+      (parts-le (negℤ (pos lowest)) (gross -ℤ pos tare)
       (omega (
         arith,
         le-parts (negℤ (pos (p .underload))) gross (not-below gross (negℤ (pos (p .underload))) under),
-        le-parts tare (pos (p .capacity)) (range .most),
-        difference-parts gross tare,
+        difference-parts gross (pos tare),
+        up-pos tare,
+        down-pos tare,
         up-negated (pos lowest),
         down-negated (pos lowest),
         up-pos lowest,
@@ -103,14 +100,13 @@ module _ (p : Profile) (allowed : profileAllowed p ≡ true) where
         up-pos (p .capacity),
         down-pos (p .capacity),
       )))
-      (parts-le (gross -ℤ tare) (pos (p .capacity))
+      (parts-le (gross -ℤ pos tare) (pos (p .capacity))
       (omega (
         arith,
         le-parts gross (pos (p .capacity)) (not-below (pos (p .capacity)) gross over),
-        le-parts (pos 0) tare (range .least),
-        difference-parts gross tare,
+        difference-parts gross (pos tare),
+        up-pos tare,
+        down-pos tare,
         up-pos (p .capacity),
         down-pos (p .capacity),
-        up-pos 0,
-        down-pos 0,
       )))

@@ -8,11 +8,12 @@ use mathlib.Core.List.{List}
 use lib.ListN.{take}
 use Rattle.device.specs.declared.call.Called.{Called}
 use Rattle.model.specs.declared.profile.Profile.{Profile}
-use Rattle.commands.specs.declared.react.Reaction.{Reaction}
+use Rattle.waiting.specs.declared.react.Reaction.{Reaction}
 use Rattle.model.specs.declared.state.State.{State}
 use Rattle.device.specs.Calls.{numberOfRefusal, answerBytes}
 use Rattle.model.specs.Profiles.{profileAllowed}
-use Rattle.commands.specs.Reactions.{byteReaction, sampleReaction}
+use Rattle.commands.specs.Reactions.{byteReaction}
+use Rattle.waiting.specs.Waits.{sampleReaction}
 use Rattle.history.specs.EndToEnd.{hostAccepts, EndToEnd}
 use Rattle.history.specs.Tally.{Input, Tally, startTally, byteIs, sampleIs, taken, tallied, loadHolds, typedHolds, weightHolds, holds, afterEvent, eventHolds}
 use Rattle.history.proofs.Along.{Followed, Step, over-calls}

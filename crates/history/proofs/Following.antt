@@ -3,10 +3,10 @@
 -- Assumes nothing.
 use mathlib.Core.Path.{_≡_, ap₂}
 use mathlib.Core.Bool.{true, cond}
-use lib.IntN.{_-ℤ_}
+use lib.IntN.{pos, _-ℤ_}
 use Rattle.model.specs.declared.profile.Profile.{Profile}
 use Rattle.model.specs.declared.weighing.Weighing.{Weighing}
-use Rattle.commands.specs.Weighings.{grossOf, netOf}
+use Rattle.weighing.specs.Weighings.{grossOf, netOf}
 use Rattle.weight.specs.Rounding.{allowedResolution, stepFemtograms, printedFemtograms, exactFemtograms, placesOf, Near}
 use Rattle.weight.proofs.HalfStep.{half-step, exact-difference}
 use Rattle.weight.proofs.Nearness.{near-triangle, near-shift}
@@ -19,7 +19,7 @@ latestIn w = cond (w .sampled) (load (w .load .0)) none
 pub record Follows (w : Weighing) (t : Tally) : Type 0 where
   pub latest : t .latest ≡ latestIn w
   pub zero : t .zero ≡ w .zero .0
-  pub tare : Near (cond (t .typed) 1_000_000_000 0) (exactFemtograms (w .tare .0)) (t .tare)
+  pub tare : Near (cond (t .typed) 1_000_000_000 0) (exactFemtograms (pos (w .tare .0))) (t .tare)
 
 module _ (w : Weighing) (t : Tally) (f : Follows w t) (sampled : w .sampled ≡ true) where
   pub is-loaded : isLoaded t ≡ true
@@ -43,14 +43,14 @@ module _ (p : Profile) (allowed : allowedResolution (p .resolution) ≡ true) (w
       (exactFemtograms (netOf w))
       (exactFemtograms (grossOf w) -ℤ t .tare)
       (half-step (p .resolution) (netOf w) allowed)
-      (rw (exact-difference (grossOf w) (w .tare .0))
-      (near-shift (cond (t .typed) 1_000_000_000 0) (exactFemtograms (grossOf w)) (exactFemtograms (w .tare .0)) (t .tare) (f .tare))))
+      (rw (exact-difference (grossOf w) (pos (w .tare .0)))
+      (near-shift (cond (t .typed) 1_000_000_000 0) (exactFemtograms (grossOf w)) (exactFemtograms (pos (w .tare .0))) (t .tare) (f .tare))))
 
-  pub tare-near : Near (allowance p t) (printedFemtograms (p .resolution) (placesOf (p .resolution) (w .tare .0))) (t .tare)
+  pub tare-near : Near (allowance p t) (printedFemtograms (p .resolution) (placesOf (p .resolution) (pos (w .tare .0)))) (t .tare)
   tare-near =
       near-triangle (stepFemtograms (p .resolution)) (cond (t .typed) 1_000_000_000 0)
-      (printedFemtograms (p .resolution) (placesOf (p .resolution) (w .tare .0)))
-      (exactFemtograms (w .tare .0))
+      (printedFemtograms (p .resolution) (placesOf (p .resolution) (pos (w .tare .0))))
+      (exactFemtograms (pos (w .tare .0)))
       (t .tare)
-      (half-step (p .resolution) (w .tare .0) allowed)
+      (half-step (p .resolution) (pos (w .tare .0)) allowed)
       (f .tare)

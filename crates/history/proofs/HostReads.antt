@@ -16,7 +16,7 @@ use Rattle.answer.specs.declared.answer.Error.{Error}
 use Rattle.answer.specs.declared.answer.Status.{Status}
 use Rattle.model.specs.declared.profile.Profile.{Profile}
 use Rattle.device.specs.Calls.{answerText, answerBytes}
-use Rattle.commands.specs.Weighings.{headOf, numberOf}
+use Rattle.weighing.specs.Weighings.{headOf, numberOf}
 use Rattle.history.specs.EndToEnd.{piecesAfter, piecesOf, valueHolds, piecesHold}
 use Rattle.history.specs.Tally.{Tally, isWeightAnswer, numberFemtograms, exactWeight, allowance, weightHolds}
 use Rattle.history.proofs.Pieces.{listed-first, formed-piece}

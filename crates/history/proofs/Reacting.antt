@@ -1,6 +1,6 @@
 -- The tally accepts what a finished line and a sample make of the state, and follows it.
 -- Assumes nothing.
-use Prim.Native.Nat.{ℕ, _+_, _<_}
+use Prim.Native.Nat.{ℕ, _+_, _<_, _≤_}
 use native.Mathlib.Omega.{arith}
 use mathlib.Core.Path.{_≡_, refl}
 use mathlib.Core.Bool.{Bool, true, false, cond, _&&_, _||_, or-true}
@@ -13,7 +13,7 @@ use Rattle.answer.specs.declared.answer.Answer.the-variants as answers
 use Rattle.answer.specs.declared.answer.Status.the-variants.{A, I, L}
 use Rattle.answer.specs.Commands.{nameOf}
 use Rattle.model.specs.declared.profile.Profile.{Profile}
-use Rattle.commands.specs.declared.react.Reaction.{Reaction}
+use Rattle.waiting.specs.declared.react.Reaction.{Reaction}
 use Rattle.model.specs.declared.state.Pending.{Pending}
 use Rattle.model.specs.declared.state.Pending.the-variants.{Nothing, Weigh, Zero, Tare}
 use Rattle.model.specs.declared.state.State.{State}
@@ -21,9 +21,10 @@ use Rattle.model.specs.declared.weighing.Load.{Load}
 use Rattle.model.specs.declared.weighing.Weighing.{Weighing}
 use Rattle.device.specs.Calls.{answerBytes}
 use Rattle.model.specs.Profiles.{profileAllowed}
-use Rattle.commands.specs.Reactions.{withWeighing, withWaiting, withRepeating, reaction, chosenReaction, measuredReaction, settled, begun, informed, weighing, zeroing, showing, taring, run, identificationOf, resetState, performed, notWaiting, placeOfPending, waited, sampleReaction}
+use Rattle.commands.specs.Reactions.{informed, weighing, zeroing, showing, taring, run, identificationOf, resetState, performed}
+use Rattle.waiting.specs.Waits.{withWeighing, withWaiting, withRepeating, reaction, chosenReaction, measuredReaction, settled, begun, notWaiting, placeOfPending, waited, sampleReaction}
 use Rattle.model.specs.States.{isPending}
-use Rattle.commands.specs.Weighings.{placeZ, placeZI, placeDW, placeT, placeTA, placeTAC, placeTI, headOf, stability, grossOf, numberOf, weighed, withTare, withSample, zeroed, tared, tareAnswer}
+use Rattle.weighing.specs.Weighings.{placeZ, placeZI, placeDW, placeT, placeTA, placeTAC, placeTI, headOf, stability, grossOf, numberOf, weighed, withTare, withSample, zeroed, tared, tareAnswer}
 use Rattle.line.specs.declared.judge.Verdict.{Verdict}
 use Rattle.line.specs.declared.judge.Verdict.the-variants.{Refused, Reset, Busy, Wrong, NoSample, Run, Preset, Show}
 use Rattle.line.specs.declared.receive.Line.{Line}
@@ -34,7 +35,6 @@ use Rattle.weight.proofs.Nearness.{near-refl}
 use Rattle.history.specs.Tally.{Tally, Input, byteIs, sampleIs, taken, ends, endedText, isResetLine, afterReset, withTareOf}
 use Rattle.history.proofs.AnswerKinds.{nothing-silent, refused-silent, list-silent, versions-silent, shown-silent, weight-shown-silent, denied-silent, text-silent, zeroed-zeroes, zeroed-now-zeroes, tared-tares, tared-now-tares}
 use Rattle.history.proofs.Answering.{Answered, answered-silent, answered-quietly, answered-zeroed, answered-cleared, answered-weighed, answered-tared, answered-told, answered-typed, zero-exact}
-use Rattle.history.proofs.DueWeights.{InCapacity}
 use Rattle.history.proofs.Following.{Follows}
 use Rattle.history.proofs.Verdicts.{Says}
 use Rattle.history.proofs.WeightLines.{tared-shows, tared-now-shows}
@@ -64,7 +64,7 @@ module _
     settled-answered
         : (w : Weighing) (pending : Pending)
         → Follows w (taken t i)
-        → InCapacity (p .capacity) (w .tare .0)
+        → w .tare .0 ≤ p .capacity
         → w .sampled ≡ true
         → w .stable ≡ true
         → Answered p t i (settled p pending w .weighing) (answerBytes p (settled p pending w .answer))
@@ -80,7 +80,7 @@ module _
     module _
         (s : State)
         (f : Follows (s .weighing) (taken t i))
-        (range : InCapacity (p .capacity) (s .weighing .tare .0))
+        (range : s .weighing .tare .0 ≤ p .capacity)
       where
         begun-by
             : (sampled stable : Bool) (pending : Pending)
@@ -104,7 +104,7 @@ module _
     module _
         (s : State)
         (f : Follows (s .weighing) (taken t i))
-        (range : InCapacity (p .capacity) (s .weighing .tare .0))
+        (range : s .weighing .tare .0 ≤ p .capacity)
         (c : ℕ)
         (sample : needsSample c ≡ true → s .weighing .sampled ≡ true)
       where
@@ -153,7 +153,7 @@ module _
             (chosenReaction first (begun p s Tare)
             (chosenReaction now (measuredReaction s (tared p (s .weighing) placeTI))
             (chosenReaction clear
-            (reaction (withWeighing s (withTare (s .weighing) (pos 0))) (Plain (headOf placeTAC A)))
+            (reaction (withWeighing s (withTare (s .weighing) 0)) (Plain (headOf placeTAC A)))
             (reaction s (tareAnswer p (s .weighing .tare .0))))))
         taring-by true now clear h alone = begun-reacted s f range Tare
         taring-by false true clear h alone =
@@ -202,7 +202,7 @@ module _
     (m : Marked)
     (s : State)
     (f : Follows (s .weighing) t)
-    (range : InCapacity (p .capacity) (s .weighing .tare .0))
+    (range : s .weighing .tare .0 ≤ p .capacity)
     (end : endsUnbounded (t .line) m ≡ true)
   where
     -- the byte leaves the weighing alone
@@ -261,7 +261,7 @@ module _
     (t : Tally)
     (s : State)
     (f : Follows (s .weighing) t)
-    (range : InCapacity (p .capacity) (s .weighing .tare .0))
+    (range : s .weighing .tare .0 ≤ p .capacity)
     (z : Load)
   where
     -- no line ends

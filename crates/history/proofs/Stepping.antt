@@ -10,12 +10,13 @@ use lib.ListN.{take}
 use Rattle.answer.specs.declared.answer.Answer.the-variants.{Nothing}
 use Rattle.device.specs.declared.call.Called.{Called}
 use Rattle.model.specs.declared.profile.Profile.{Profile}
-use Rattle.commands.specs.declared.react.Reaction.{Reaction}
+use Rattle.waiting.specs.declared.react.Reaction.{Reaction}
 use Rattle.model.specs.declared.state.State.{State}
 use Rattle.model.specs.declared.weighing.Load.{Load}
 use Rattle.device.specs.Calls.{numberOfRefusal, answerBytes, ByteCalled, SampleCalled}
 use Rattle.model.specs.Profiles.{profileAllowed}
-use Rattle.commands.specs.Reactions.{withLine, chosenReaction, reaction, performed, byteReaction, waited, sampleReaction}
+use Rattle.commands.specs.Reactions.{performed, byteReaction}
+use Rattle.waiting.specs.Waits.{withLine, chosenReaction, reaction, waited, sampleReaction}
 use Rattle.model.specs.States.{isPending, stateAllowed, startState}
 use Rattle.line.specs.declared.receive.Line.{Line}
 use Rattle.line.specs.Receiving.{clearedLine, receivedByte}

@@ -5,12 +5,11 @@ use native.Mathlib.Omega.{arith}
 use mathlib.Core.Path.{_≡_, refl, ap}
 use mathlib.Core.Bool.{Bool, true, false, cond}
 use mathlib.Core.List.{List}
-use borrow.Author.Tests.{le-leb}
 use lib.Dec.{leb}
-use lib.IntN.{ℤ, pos, natAbs}
+use lib.IntN.{pos}
 use lib.ListN.{length}
 use Rattle.weight.specs.declared.units.WeightUnit.{WeightUnit}
-use Rattle.weight.specs.declared.rounding.Micrograms.{Micrograms}
+use Rattle.weight.specs.declared.typed.Tare.{Tare}
 use Rattle.weight.specs.declared.typed.Typed.the-variants.{Amount, TooLarge, NotTyped}
 use Rattle.weight.specs.Reading.{isDecimal, decimalsIn, valueIn}
 use Rattle.weight.specs.Rounding.{exactFemtograms, Near}
@@ -18,31 +17,30 @@ use Rattle.weight.specs.Typed.{isTyped, typedMicrograms, typedFemtograms, large
 use Rattle.weight.proofs.Allowed.{both-right}
 use Rattle.weight.proofs.DecimalText.{decimals-limit}
 use Rattle.weight.proofs.HalfStep.{typed-near}
-use Rattle.history.proofs.DueWeights.{InCapacity}
 
--- a typed number that C allows: it is a decimal, it is stored as a natural number up to C, and that is near what was typed
-pub record TypedAs (capacity : ℕ) (u : WeightUnit) (t : List ℕ) (m : ℤ) : Type 0 where
+-- a typed number that C allows: it is a decimal, it is stored as a number up to C, and that is near what was typed
+pub record TypedAs (capacity : ℕ) (u : WeightUnit) (t : List ℕ) (m : ℕ) : Type 0 where
   pub decimal : isDecimal t ≡ true
-  pub range : InCapacity capacity m
-  pub near : Near 1_000_000_000 (exactFemtograms m) (pos (typedFemtograms u (decimalsIn t) (valueIn t)))
+  pub range : m ≤ capacity
+  pub near : Near 1_000_000_000 (exactFemtograms (pos m)) (pos (typedFemtograms u (decimalsIn t) (valueIn t)))
 
 typed-decimal : (t : List ℕ) → isTyped t ≡ true → isDecimal t ≡ true
 unfolding isTyped
 typed-decimal t e = both-right (leb (length t) 10) (isDecimal t) e
 
-module _ (capacity : ℕ) (u : WeightUnit) (t : List ℕ) (m : Micrograms) where
+module _ (capacity : ℕ) (u : WeightUnit) (t : List ℕ) (m : Tare) where
   -- by the tests of the reader
   typed-by
       : (b q : Bool) (n : ℕ)
       → isTyped t ≡ b
-      → cond b (cond q (Amount (record { 0 = pos n })) TooLarge) NotTyped ≡ Amount m
-      → (isTyped t ≡ true) × (m .0 ≡ pos n)
-  typed-by true true n h e = let same : m ≡ record { 0 = pos n } = cc in (h, ap (λ (x : Micrograms). x .0) same)
+      → cond b (cond q (Amount (record { 0 = n })) TooLarge) NotTyped ≡ Amount m
+      → (isTyped t ≡ true) × (m .0 ≡ n)
+  typed-by true true n h e = let same : m ≡ record { 0 = n } = cc in (h, ap (λ (x : Tare). x .0) same)
   typed-by true false n h e = let z : _≡_ {A = ℕ} 0 1 = cc in absurd (omega arith)
   typed-by false q n h e = let z : _≡_ {A = ℕ} 0 1 = cc in absurd (omega arith)
 
   -- a number that TA takes is such a one
-  pub typed-as : readTyped u t ≡ Amount m → natAbs (m .0) ≤ capacity → TypedAs capacity u t (m .0)
+  pub typed-as : readTyped u t ≡ Amount m → m .0 ≤ capacity → TypedAs capacity u t (m .0)
   unfolding readTyped amountOf
   typed-as e h =
       let n = typedMicrograms u (decimalsIn t) (valueIn t) in
@@ -50,6 +48,6 @@ module _ (capacity : ℕ) (u : WeightUnit) (t : List ℕ) (m : Micrograms) where
       let d = typed-decimal t (read .0) in
       record {
         decimal = d;
-        range = rw (read .1) (record { least = le-leb 0 n (omega arith); most = le-leb n capacity (rw (read .1) at h) });
+        range = h;
         near = rw (read .1) (typed-near u (decimalsIn t) (valueIn t) (decimals-limit t d));
       }

@@ -1,6 +1,6 @@
 -- What the judgement of a finished line says of that line, in the tally's words, and what it promises of its parameter.
 -- Assumes nothing.
-use Prim.Native.Nat.{ℕ, _<_}
+use Prim.Native.Nat.{ℕ, _<_, _≤_}
 use mathlib.Core.Path.{_≡_, refl, sym, ap, _∙_}
 use mathlib.Core.Bool.{Bool, true, false, not, _&&_, true≢false, false≢true}
 use mathlib.Core.List.{List, map}
@@ -14,12 +14,11 @@ use Rattle.line.specs.Unbounded.{Marked, byteIn, anyFaulty, judgementOf}
 use Rattle.line.proofs.Kept.{Holds}
 use Rattle.line.proofs.Verdicts.{GoodLine, Shown, reset-line, reset-judged, run-line, preset-line, show-line, show-cells}
 use Rattle.weight.specs.declared.units.WeightUnit.{WeightUnit}
-use Rattle.weight.specs.declared.rounding.Micrograms.{Micrograms}
+use Rattle.weight.specs.declared.typed.Tare.{Tare}
 use Rattle.weight.specs.Ascii.{ascii, sameText}
 use Rattle.weight.proofs.Allowed.{both-left, both-right}
 use Rattle.weight.proofs.Named.{same-is}
 use Rattle.history.specs.Tally.{isResetLine, typedText}
-use Rattle.history.proofs.DueWeights.{InCapacity}
 use Rattle.history.proofs.TypedLines.{TypedAs, typed-as}
 
 -- ---- @
@@ -79,7 +78,7 @@ pub record RunSays (f : List Marked) (sampled : Bool) (c : ℕ) : Type 0 where
   pub sample : needsSample c ≡ true → sampled ≡ true
 
 -- the line TA number unit
-pub record PresetSays (capacity : ℕ) (unit : WeightUnit) (f : List Marked) (m : Micrograms) : Type 0 where
+pub record PresetSays (capacity : ℕ) (unit : WeightUnit) (f : List Marked) (m : Tare) : Type 0 where
   pub other : isResetLine f ≡ false
   pub more : sameText (map byteIn f) (ascii "TA") ≡ false
   pub typed : TypedAs capacity unit (typedText (map byteIn f)) (m .0)
@@ -136,7 +135,7 @@ Proper capacity sampled l (Busy c) = Unit
 Proper capacity sampled l (Wrong c) = Unit
 Proper capacity sampled l (NoSample c) = Unit
 Proper capacity sampled l (Run c) = isSIR c ≡ true → sampled ≡ true
-Proper capacity sampled l (Preset m) = InCapacity capacity (m .0)
+Proper capacity sampled l (Preset m) = m .0 ≤ capacity
 Proper capacity sampled l (Show n) = Shown l n
 
 module _ (capacity : ℕ) (unit : WeightUnit) (f : List Marked) (waiting sampled : Bool) (l : Line) (held : Holds l f) where

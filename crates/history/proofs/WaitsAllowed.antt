@@ -3,30 +3,32 @@
 use mathlib.Core.Path.{_≡_, refl, sym, _∙_}
 use mathlib.Core.Bool.{Bool, true, false, not, _&&_, _||_, or-true}
 use mathlib.Core.List.{List}
-use Prim.Native.Nat.{ℕ, _+_, _≤_}
+use Prim.Native.Nat.{ℕ, _+_, _≤_, zero-le}
 use native.Mathlib.Omega.{arith}
 use borrow.Author.Tests.{leb-false, le-leb, lt-ltb}
 use lib.Dec.{leb, ltb, eqb}
-use lib.IntN.{ℤ, pos, negℤ}
+use lib.IntN.{pos, negℤ, natAbs}
 use lib.ListN.{take, drop}
 use lib.Seq.{take-at}
 use lib.Signed.{leZ, ltZ}
 use Rattle.answer.specs.declared.answer.Status.{Status}
 use Rattle.answer.specs.declared.answer.Status.the-variants.{A}
 use Rattle.model.specs.declared.profile.Profile.{Profile}
-use Rattle.commands.specs.declared.react.Reaction.{Reaction}
+use Rattle.waiting.specs.declared.react.Reaction.{Reaction}
 use Rattle.model.specs.declared.state.Display.{Display}
 use Rattle.model.specs.declared.state.Pending.{Pending}
 use Rattle.model.specs.declared.state.Pending.the-variants.{Nothing, Weigh, Zero, Tare}
 use Rattle.model.specs.declared.state.State.{State}
 use Rattle.model.specs.declared.state.Waiting.{Waiting}
 use Rattle.model.specs.declared.weighing.Load.{Load}
-use Rattle.commands.specs.declared.weighing.Measured.{Measured}
+use Rattle.weighing.specs.declared.weighing.Measured.{Measured}
 use Rattle.model.specs.declared.weighing.Weighing.{Weighing}
 use Rattle.model.specs.Profiles.{textAllowed20, profileAllowed}
-use Rattle.commands.specs.Reactions.{chosenReaction, withLine, withWeighing, withWaiting, withRepeating, withDisplay, notWaiting, settled, begun, weighing, zeroing, taring, run, weightShown, resetState, textShown, performed, byteReaction, waited, sampleReaction}
+use Rattle.commands.specs.Reactions.{weighing, zeroing, taring, run, weightShown, resetState, textShown, performed, byteReaction}
+use Rattle.waiting.specs.Waits.{chosenReaction, withLine, withWeighing, withWaiting, withRepeating, withDisplay, notWaiting, settled, begun, waited, sampleReaction}
 use Rattle.model.specs.States.{isPending, stateAllowed}
-use Rattle.commands.specs.Weighings.{placeZ, placeZI, placeDW, placeT, placeTI, placeTAC, stability, grossOf, withTare, withZero, withSample, chosenWeighing, zeroed, tared}
+use Rattle.weighing.proofs.Reach.{between}
+use Rattle.weighing.specs.Weighings.{placeZ, placeZI, placeDW, placeT, placeTI, placeTAC, stability, grossOf, withTare, withZero, withSample, chosenWeighing, zeroed, tared}
 use Rattle.model.proofs.ProfileFacts.{allowed-profile}
 use Rattle.model.proofs.StateFacts.{StateTests, allowed-tests, tests-allow}
 use Rattle.line.specs.declared.judge.Verdict.{Verdict}
@@ -38,7 +40,7 @@ use Rattle.line.specs.Unbounded.{Marked, endsUnbounded, finishedLine}
 use Rattle.line.proofs.Kept.{Holds, Keeps, markedAs, ends-alike, holds-finished, holds-judged, keeps-byte}
 use Rattle.line.proofs.Verdicts.{Shown}
 use Rattle.weight.proofs.Allowed.{both-hold}
-use Rattle.history.proofs.DueWeights.{InCapacity, not-below}
+use Rattle.history.proofs.DueWeights.{not-below}
 use Rattle.history.proofs.Verdicts.{Proper, verdict-proper}
 
 -- a choice by its test
@@ -51,7 +53,7 @@ by-choice P false f g = g refl
 -- zero and tare in their ranges
 pub record InRanges (p : Profile) (w : Weighing) : Type 0 where
   pub zero : (leZ (negℤ (pos (p .zeroing))) (w .zero .0) && leZ (w .zero .0) (pos (p .zeroing))) ≡ true
-  pub tare : (leZ (pos 0) (w .tare .0) && leZ (w .tare .0) (pos (p .capacity))) ≡ true
+  pub tare : leb (w .tare .0) (p .capacity) ≡ true
 
 -- what a command made of a weighing: zero and tare in their ranges, and the sample kept
 record Moved (p : Profile) (w v : Weighing) : Type 0 where
@@ -62,16 +64,8 @@ module _ (p : Profile) (w : Weighing) (old : InRanges p w) where
   unmoved : Moved p w w
   unmoved = record { ranges = old; sampled = refl }
 
-  tare-moved : (z : ℤ) → InCapacity (p .capacity) z → Moved p w (withTare w z)
-  tare-moved z h =
-      record {
-        ranges =
-            record {
-              zero = old .zero;
-              tare = both-hold (leZ (pos 0) z) (leZ z (pos (p .capacity))) (h .least) (h .most);
-            };
-        sampled = refl;
-      }
+  tare-moved : (n : ℕ) → n ≤ p .capacity → Moved p w (withTare w n)
+  tare-moved n h = record { ranges = record { zero = old .zero; tare = le-leb n (p .capacity) h }; sampled = refl }
 
   zeroed-by : (over under : Bool) → ltZ (pos (p .zeroing)) (w .load .0) ≡ over → ltZ (w .load .0) (negℤ (pos (p .zeroing))) ≡ under
       → Moved p w (chosenWeighing (over || under) w (withZero w (w .load .0)))
@@ -95,12 +89,11 @@ module _ (p : Profile) (w : Weighing) (old : InRanges p w) where
   zeroed-moved c granted = zeroed-by (ltZ (pos (p .zeroing)) (w .load .0)) (ltZ (w .load .0) (negℤ (pos (p .zeroing)))) refl refl
 
   tared-by : (over under : Bool) → ltZ (pos (p .capacity)) (grossOf w) ≡ over → ltZ (grossOf w) (pos 0) ≡ under
-      → Moved p w (chosenWeighing (over || under) w (withTare w (grossOf w)))
+      → Moved p w (chosenWeighing (over || under) w (withTare w (natAbs (grossOf w))))
   tared-by true under o u = unmoved
   tared-by false true o u = unmoved
   tared-by false false o u =
-      tare-moved (grossOf w)
-      (record { least = not-below (grossOf w) (pos 0) u; most = not-below (pos (p .capacity)) (grossOf w) o })
+      tare-moved (natAbs (grossOf w)) (between (grossOf w) (p .capacity) o u .1)
 
   tared-moved : (c : ℕ) → Moved p w (tared p w c .weighing)
   unfolding tared
@@ -111,10 +104,6 @@ module _ (p : Profile) (w : Weighing) (old : InRanges p w) where
   settled-moved Weigh = unmoved
   settled-moved Zero = zeroed-moved placeZ A
   settled-moved Tare = tared-moved placeT
-
-  -- no tare
-  untared : InCapacity (p .capacity) (pos 0)
-  untared = record { least = refl; most = le-leb 0 (p .capacity) (omega arith) }
 
 -- ---- the groups of an allowed state, each put back alone
 
@@ -198,8 +187,7 @@ module _ (p : Profile) (least : 1 ≤ p .timeout) (s : State) (h : StateTests p 
       (λ f.
       by-choice Goal (eqb c placeTAC)
       (λ g.
-      with-weighing p s h (withTare (s .weighing) (pos 0))
-      (tare-moved p (s .weighing) (ranges-of p s h) (pos 0) (untared p (s .weighing) (ranges-of p s h))))
+      with-weighing p s h (withTare (s .weighing) 0) (tare-moved p (s .weighing) (ranges-of p s h) 0 zero-le))
       (λ g. h)))
 
   run-allowed : (c : ℕ) → (isSIR c ≡ true → s .weighing .sampled ≡ true) → StateTests p (run p s c .state)

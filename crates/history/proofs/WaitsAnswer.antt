@@ -14,7 +14,7 @@ use Rattle.model.specs.declared.profile.Profile.{Profile}
 use Rattle.model.specs.declared.weighing.Weighing.{Weighing}
 use Rattle.device.specs.Calls.{answerBytes}
 use Rattle.model.specs.Profiles.{identityText}
-use Rattle.commands.specs.Weighings.{placeS, grossOf, netOf, headOf, numberOf, stability, inLimits, weighed, zeroed, tared}
+use Rattle.weighing.specs.Weighings.{placeS, grossOf, netOf, headOf, numberOf, stability, inLimits, weighed, zeroed, tared}
 use Rattle.answer.specs.declared.answer.Status.{Status}
 use Rattle.answer.specs.declared.answer.Status.the-variants.{Over, Under}
 use Rattle.weight.specs.Ascii.{ascii, digit}

@@ -12,12 +12,13 @@ use Rattle.answer.specs.Lines.{fitsRoom, laidIn}
 use Rattle.device.specs.declared.call.Called.{Called}
 use Rattle.model.specs.declared.refusal.Refusal.the-variants as refusals
 use Rattle.model.specs.declared.profile.Profile.{Profile}
-use Rattle.commands.specs.declared.react.Reaction.{Reaction}
+use Rattle.waiting.specs.declared.react.Reaction.{Reaction}
 use Rattle.model.specs.declared.state.State.{State}
 use Rattle.model.specs.declared.weighing.Load.{Load}
 use Rattle.device.specs.Calls.{numberOfRefusal, answerBytes, delivered, ofProfile, ofState, powerOnOutcome, byteOutcome, sampleOutcome, PowerOnCalled, ByteCalled, SampleCalled}
 use Rattle.model.specs.Profiles.{profileAllowed}
-use Rattle.commands.specs.Reactions.{byteReaction, sampleReaction}
+use Rattle.commands.specs.Reactions.{byteReaction}
+use Rattle.waiting.specs.Waits.{sampleReaction}
 use Rattle.model.specs.States.{stateAllowed, startState}
 
 pub data Delivered (p : Profile) (s : State) (x : Reaction) (r : Called) (buffer : List ℕ) : Type 0 where

@@ -8,11 +8,12 @@ use Prim.Native.Nat.{ℕ}
 use lib.ListN.{take}
 use Rattle.device.specs.declared.call.Called.{Called}
 use Rattle.model.specs.declared.profile.Profile.{Profile}
-use Rattle.commands.specs.declared.react.Reaction.{Reaction}
+use Rattle.waiting.specs.declared.react.Reaction.{Reaction}
 use Rattle.model.specs.declared.state.State.{State}
 use Rattle.device.specs.Calls.{numberOfRefusal, answerBytes}
 use Rattle.model.specs.Profiles.{profileAllowed}
-use Rattle.commands.specs.Reactions.{withLine, performed, byteReaction, sampleReaction}
+use Rattle.commands.specs.Reactions.{performed, byteReaction}
+use Rattle.waiting.specs.Waits.{withLine, sampleReaction}
 use Rattle.model.specs.States.{isPending, stateAllowed, startState}
 use Rattle.model.proofs.StateFacts.{start-allowed}
 use Rattle.line.specs.declared.receive.Line.{Line}

@@ -11,14 +11,15 @@ use Rattle.answer.specs.declared.answer.Answer.the-variants as answers
 use Rattle.answer.specs.declared.answer.Status.the-variants.{A}
 use Rattle.answer.specs.Commands.{nameOf}
 use Rattle.model.specs.declared.profile.Profile.{Profile}
-use Rattle.commands.specs.declared.react.Reaction.{Reaction}
+use Rattle.waiting.specs.declared.react.Reaction.{Reaction}
 use Rattle.model.specs.declared.state.Pending.{Pending}
 use Rattle.model.specs.declared.state.Pending.the-variants.{Nothing, Weigh, Zero, Tare}
 use Rattle.model.specs.declared.state.State.{State}
 use Rattle.model.specs.declared.weighing.Weighing.{Weighing}
-use Rattle.commands.specs.Reactions.{withRepeating, notWaiting, settled, begun, weighing, zeroing, taring, run, resetState, performed}
+use Rattle.commands.specs.Reactions.{weighing, zeroing, taring, run, resetState, performed}
+use Rattle.waiting.specs.Waits.{withRepeating, notWaiting, settled, begun}
 use Rattle.model.specs.States.{isPending}
-use Rattle.commands.specs.Weighings.{placeZ, placeZI, placeDW, placeT, placeTI, placeTAC, stability}
+use Rattle.weighing.specs.Weighings.{placeZ, placeZI, placeDW, placeT, placeTI, placeTAC, stability}
 use Rattle.line.specs.declared.judge.Verdict.{Verdict}
 use Rattle.line.specs.declared.judge.Verdict.the-variants.{Refused, Reset, Busy, Wrong, NoSample, Run, Preset, Show}
 use Rattle.line.specs.declared.receive.Line.{Line}

@@ -11,15 +11,15 @@ use Rattle.answer.specs.declared.answer.Answer.the-variants as answers
 use Rattle.answer.specs.declared.answer.Status.the-variants.{I}
 use Rattle.answer.specs.Lines.{headText, lineOf}
 use Rattle.model.specs.declared.profile.Profile.{Profile}
-use Rattle.commands.specs.declared.react.Reaction.{Reaction}
+use Rattle.waiting.specs.declared.react.Reaction.{Reaction}
 use Rattle.model.specs.declared.state.Pending.{Pending}
 use Rattle.model.specs.declared.state.Pending.the-variants.{Nothing, Weigh, Zero, Tare}
 use Rattle.model.specs.declared.state.State.{State}
 use Rattle.model.specs.declared.weighing.Load.{Load}
 use Rattle.device.specs.Calls.{answerBytes}
-use Rattle.commands.specs.Reactions.{withLine, withWeighing, withWaiting, reaction, measuredReaction, notWaiting, placeOfPending, settled, waited, sampleReaction}
+use Rattle.waiting.specs.Waits.{withLine, withWeighing, withWaiting, reaction, measuredReaction, notWaiting, placeOfPending, settled, waited, sampleReaction}
 use Rattle.model.specs.States.{isPending, stateAllowed}
-use Rattle.commands.specs.Weighings.{headOf, weighed, withSample}
+use Rattle.weighing.specs.Weighings.{headOf, weighed, withSample}
 use Rattle.line.specs.declared.judge.Verdict.{Verdict}
 use Rattle.line.specs.declared.receive.Line.{Line}
 use Rattle.line.specs.Unbounded.{Marked, endsUnbounded, finishedLine, judgementOf}

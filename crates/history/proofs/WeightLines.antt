@@ -11,7 +11,7 @@ use Rattle.answer.specs.declared.answer.Answer.the-variants.{Weight}
 use Rattle.answer.specs.declared.answer.Status.the-variants.{A, S, D}
 use Rattle.answer.specs.Lines.{lineEnd, headText, weightText, lineOf}
 use Rattle.model.specs.declared.profile.Profile.{Profile}
-use Rattle.commands.specs.Weighings.{headOf, numberOf, placeS, placeT, placeTA, placeTI}
+use Rattle.weighing.specs.Weighings.{headOf, numberOf, placeS, placeT, placeTA, placeTI}
 use Rattle.device.specs.Calls.{answerBytes}
 use Rattle.weight.specs.declared.reading.FieldRead.the-variants.{Number as ReadNumber}
 use Rattle.weight.specs.Ascii.{ascii, sameText}

@@ -6,7 +6,6 @@ use mathlib.Core.List.{List}
 use Prim.Native.Nat.{ℕ, _+_, _-_, _≤_, _<_}
 use native.Mathlib.Omega.{arith}
 use lib.Dec.{leb, eqb}
-use lib.IntN.{natAbs}
 use lib.ListN.{length, getD, take, drop, length-take, length-drop}
 use lib.Seq.{length-take-le}
 use borrow.Author.Tests.{le-leb, lt-leb, lt-ltb, le-ltb, leb-true}
@@ -15,7 +14,7 @@ use Rattle.line.specs.declared.judge.Verdict.the-variants.{Wrong, Preset
 use Rattle.line.specs.Judging.{afterSpace, hasSpace, isPrintable, isShown, betweenQuotes, isQuoted, isPreset}
 use Rattle.line.specs.Parts.{showRule, amountRule, presetRule}
 use Rattle.weight.specs.declared.units.WeightUnit.{WeightUnit}
-use Rattle.weight.specs.declared.rounding.Micrograms.{Micrograms}
+use Rattle.weight.specs.declared.typed.Tare.{Tare}
 use Rattle.weight.specs.declared.typed.Typed.{Typed}
 use Rattle.weight.specs.declared.typed.Typed.the-variants.{Amount, TooLarge, NotTyped}
 use Rattle.weight.specs.Ascii.{space, sameText}
@@ -76,14 +75,14 @@ module _ (p : List ℕ) {q : Bool} (known : q ≡ isQuoted p) where
 -- ---- TA
 
 module _ (capacity : ℕ) (n : Typed) where
-  module _ {m : Micrograms} (told : n ≡ Amount m) where
-    pub within-capacity : {size : ℕ} → size ≡ natAbs (m .0) → size ≤ capacity → Preset m ≡ amountRule capacity n
+  module _ {m : Tare} (told : n ≡ Amount m) where
+    pub within-capacity : m .0 ≤ capacity → Preset m ≡ amountRule capacity n
     unfolding amountRule
-    within-capacity e h = rw (told, le-leb (natAbs (m .0)) capacity (rw e at h))
+    within-capacity h = rw (told, le-leb (m .0) capacity h)
 
-    pub above-capacity : {size : ℕ} → size ≡ natAbs (m .0) → capacity < size → Wrong 15 ≡ amountRule capacity n
+    pub above-capacity : capacity < m .0 → Wrong 15 ≡ amountRule capacity n
     unfolding amountRule
-    above-capacity e h = rw (told, lt-leb (natAbs (m .0)) capacity (rw e at h))
+    above-capacity h = rw (told, lt-leb (m .0) capacity h)
 
   pub too-large : n ≡ TooLarge → Wrong 15 ≡ amountRule capacity n
   unfolding amountRule

@@ -6,7 +6,6 @@ use mathlib.Core.List.{List, [], _∷_, _++_, map}
 use Prim.Native.Nat.{ℕ, zero, suc, _-_, _≤_, _<_}
 use native.Mathlib.Omega.{arith}
 use lib.Dec.{leb, ltb}
-use lib.IntN.{natAbs}
 use lib.ListN.{length, take, drop, length-map, length-take, length-drop}
 use lib.Seq.{take-take}
 use borrow.Author.Tests.{eqb-true, eqb-false, leb-true, leb-false, ltb-false, not-true, not-false}
@@ -44,7 +43,7 @@ use Rattle.line.specs.Unbounded.{Marked, byteIn, anyFaulty, judgementOf}
 use Rattle.line.proofs.Kept.{Holds}
 use Rattle.line.proofs.Parameters.{Between, shown-between}
 use Rattle.weight.specs.declared.units.WeightUnit.{WeightUnit}
-use Rattle.weight.specs.declared.rounding.Micrograms.{Micrograms}
+use Rattle.weight.specs.declared.typed.Tare.{Tare}
 use Rattle.weight.specs.declared.typed.Typed.{Typed}
 use Rattle.weight.specs.declared.typed.Typed.the-variants.{Amount, TooLarge, NotTyped}
 use Rattle.weight.specs.Ascii.{ascii, space, sameText}
@@ -70,7 +69,7 @@ isOwn (Run c) = true
 isOwn (Preset m) = true
 isOwn (Show n) = true
 
-own-by : (d ta : Bool) (n c : ℕ) (m : Micrograms) → isOwn (cond d (Show n) (cond ta (Preset m) (Run c))) ≡ true
+own-by : (d ta : Bool) (n c : ℕ) (m : Tare) → isOwn (cond d (Show n) (cond ta (Preset m) (Run c))) ≡ true
 own-by true ta n c m = refl
 own-by false true n c m = refl
 own-by false false n c m = refl
@@ -226,12 +225,12 @@ pub record KeptLine (f : List Marked) (c : ℕ) : Type 0 where
   pub no-reset : c ≡ 11 → ⊥
 
 -- a line judged to TA with the amount m
-pub record PresetLine (capacity : ℕ) (u : WeightUnit) (f : List Marked) (waiting : Bool) (m : Micrograms) : Type 0 where
+pub record PresetLine (capacity : ℕ) (u : WeightUnit) (f : List Marked) (waiting : Bool) (m : Tare) : Type 0 where
   pub line : GoodLine f (ascii "TA " ++ parameterIn f)
   pub parts : parameterIn f ≡ beforeSpace (parameterIn f) ++ (space ∷ unitText u)
   pub unit : afterSpace (parameterIn f) ≡ unitText u
   pub number : readTyped u (beforeSpace (parameterIn f)) ≡ Amount m
-  pub within : natAbs (m .0) ≤ capacity
+  pub within : m .0 ≤ capacity
   pub free : waiting ≡ false
 
 -- a line judged to D with a text of n bytes, from its fourth on
@@ -283,17 +282,17 @@ nothing-after true d false e a b = never (cc)
 nothing-after false d ta e a b = refl
 
 -- what row 8 gave
-run-by : (d ta : Bool) (n c k : ℕ) (m : Micrograms) → cond d (Show n) (cond ta (Preset m) (Run c)) ≡ Run k → (d ≡ false) × (ta ≡ false) × (c ≡ k)
+run-by : (d ta : Bool) (n c k : ℕ) (m : Tare) → cond d (Show n) (cond ta (Preset m) (Run c)) ≡ Run k → (d ≡ false) × (ta ≡ false) × (c ≡ k)
 run-by true ta n c k m e = never (cc)
 run-by false true n c k m e = never (cc)
 run-by false false n c k m e = (refl, refl, cc)
 
-preset-by : (d ta : Bool) (n c : ℕ) (m p : Micrograms) → cond d (Show n) (cond ta (Preset m) (Run c)) ≡ Preset p → (d ≡ false) × (ta ≡ true) × (m ≡ p)
+preset-by : (d ta : Bool) (n c : ℕ) (m p : Tare) → cond d (Show n) (cond ta (Preset m) (Run c)) ≡ Preset p → (d ≡ false) × (ta ≡ true) × (m ≡ p)
 preset-by true ta n c m p e = never (cc)
 preset-by false true n c m p e = (refl, refl, cc)
 preset-by false false n c m p e = never (cc)
 
-show-by : (d ta : Bool) (n c k : ℕ) (m : Micrograms) → cond d (Show n) (cond ta (Preset m) (Run c)) ≡ Show k → (d ≡ true) × (n ≡ k)
+show-by : (d ta : Bool) (n c k : ℕ) (m : Tare) → cond d (Show n) (cond ta (Preset m) (Run c)) ≡ Show k → (d ≡ true) × (n ≡ k)
 show-by true ta n c k m e = (refl, cc)
 show-by false true n c k m e = never (cc)
 show-by false false n c k m e = never (cc)
@@ -322,8 +321,8 @@ showing capacity u c n t right own =
     record { is = is; spaced = both .0; quotes = shown-between (afterSpace t) (both .1); count = by .1 }
 
 -- a number that the capacity allows
-amount-by : (capacity : ℕ) (n : Typed) → presetOf capacity n ≡ true → (n ≡ Amount (amountIn n)) × (natAbs (amountIn n .0) ≤ capacity)
-amount-by capacity (Amount m) e = (refl, leb-true (natAbs (m .0)) capacity e)
+amount-by : (capacity : ℕ) (n : Typed) → presetOf capacity n ≡ true → (n ≡ Amount (amountIn n)) × (amountIn n .0 ≤ capacity)
+amount-by capacity (Amount m) e = (refl, leb-true (m .0) capacity e)
 amount-by capacity TooLarge e = never (cc)
 amount-by capacity NotTyped e = never (cc)
 
@@ -385,7 +384,7 @@ module _ (capacity : ℕ) (u : WeightUnit) (f : List Marked) (waiting sampled : 
 
   -- ---- TA with a number
 
-  pub preset-line : {m : Micrograms} → judgementOf capacity u f waiting sampled ≡ Preset m → PresetLine capacity u f waiting m
+  pub preset-line : {m : Tare} → judgementOf capacity u f waiting sampled ≡ Preset m → PresetLine capacity u f waiting m
   unfolding ownRule isWrong isPreset
   preset-line {m} e =
       let row = last refl e in

@@ -4,7 +4,6 @@ use Prim.Native.Nat.{ℕ, _-_}
 use mathlib.Core.Bool.{Bool, true, false, cond, not, _&&_, _||_}
 use mathlib.Core.List.{List, [], _∷_}
 use lib.Dec.{leb, ltb, eqb}
-use lib.IntN.{pos, natAbs}
 use lib.ListN.{length, getD, take, drop}
 use Rattle.answer.specs.declared.answer.Error.the-variants.{Syntax, Transmission, Logical}
 use Rattle.answer.specs.Commands.{names, placeOf}
@@ -13,7 +12,7 @@ use Rattle.line.specs.declared.judge.Verdict.{Verdict}
 use Rattle.line.specs.declared.judge.Verdict.the-variants.{Refused, Reset, Busy, Wrong, NoSample, Run, Preset, Show}
 use Rattle.line.specs.Receiving.{contentOf}
 use Rattle.weight.specs.declared.units.WeightUnit.{WeightUnit}
-use Rattle.weight.specs.declared.rounding.Micrograms.{Micrograms}
+use Rattle.weight.specs.declared.typed.Tare.{Tare}
 use Rattle.weight.specs.declared.typed.Typed.{Typed}
 use Rattle.weight.specs.declared.typed.Typed.the-variants.{Amount, TooLarge, NotTyped}
 use Rattle.weight.specs.Ascii.{space, sameText}
@@ -98,14 +97,14 @@ isQuoted p =
 
 -- the micrograms of a typed number, where it is one that C allows
 abbrev pub presetOf : ℕ → Typed → Bool
-presetOf capacity (Amount m) = leb (natAbs (m .0)) capacity
+presetOf capacity (Amount m) = leb (m .0) capacity
 presetOf capacity TooLarge = false
 presetOf capacity NotTyped = false
 
-abbrev pub amountIn : Typed → Micrograms
+abbrev pub amountIn : Typed → Tare
 amountIn (Amount m) = m
-amountIn TooLarge = record { 0 = pos 0 }
-amountIn NotTyped = record { 0 = pos 0 }
+amountIn TooLarge = record { 0 = 0 }
+amountIn NotTyped = record { 0 = 0 }
 
 -- the number of TA number unit
 abbrev pub typedIn : WeightUnit → List ℕ → Typed

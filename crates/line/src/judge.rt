@@ -20,7 +20,7 @@ use answer::TA;
 use answer::TI;
 use answer::ZI;
 use answer::find_command;
-use weight::Micrograms;
+use weight::Tare;
 use weight::WeightUnit;
 use weight::first_at;
 
@@ -34,7 +34,7 @@ pub enum Verdict {
     // The command's own rule.
     Run(u8),
     // TA with a number.
-    Preset(Micrograms),
+    Preset(Tare),
     // D with a text of this length, which starts at the line's fourth byte.
     Show(u8),
 }

@@ -11,7 +11,6 @@ use weight::WeightUnit;
 use weight::first_at;
 use weight::is_unit;
 use weight::read_typed;
-use weight::size_of;
 
 const QUOTE: u8 = 34;
 
@@ -55,8 +54,7 @@ fn amount_rule(capacity: u32, typed: Typed) -> Verdict
 {
     match typed {
         Typed::Amount(amount) => {
-            let most = capacity as u64;
-            if size_of(amount) <= most {
+            if amount.0 <= capacity {
                 Verdict::Preset(amount)
             } else {
                 Verdict::Wrong(TA)

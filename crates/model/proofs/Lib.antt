@@ -1,6 +1,6 @@
 pub mod Conjunctions
 pub mod Nets
 pub mod ProfileFacts
-pub mod Sizes
+mod Sizes
 pub mod StateFacts
 mod Widening

@@ -14,8 +14,3 @@ pub size-between
 size-between low high (pos m) h above below = omega (arith, leb-true m high below)
 size-between zero high (negsuc m) h above below = absurd (false≢true above)
 size-between (suc low) high (negsuc m) h above below = omega (arith, leb-true m low above)
-
--- between 0 and high
-pub size-up-to : (high : ℕ) (z : ℤ) → leZ (pos 0) z ≡ true → leZ z (pos high) ≡ true → natAbs z ≤ high
-size-up-to high (pos m) above below = leb-true m high below
-size-up-to high (negsuc m) above below = absurd (false≢true above)

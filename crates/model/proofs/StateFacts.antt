@@ -6,7 +6,7 @@ use Prim.Native.Nat.{ℕ, zero, suc, _≤_, _<_}
 use native.Mathlib.Omega.{arith}
 use borrow.Author.Tests.{leb-true, ltb-true, le-leb}
 use lib.Dec.{ltb}
-use lib.IntN.{pos, negℤ, natAbs}
+use lib.IntN.{pos, negℤ}
 use lib.Signed.{leZ}
 use Rattle.weight.proofs.Allowed.{both-left, both-right}
 use Rattle.model.specs.declared.profile.Profile.{Profile}
@@ -14,7 +14,6 @@ use Rattle.model.specs.declared.state.State.{State}
 use Rattle.model.specs.Profiles.{textAllowed20}
 use Rattle.model.specs.States.{zeroAllowed, tareAllowed, lineAllowed, displayAllowed, waitingAllowed, repeatingAllowed, isPending, stateAllowed, startState}
 use Rattle.model.proofs.Conjunctions.{Four, four, implied}
-use Rattle.model.proofs.Sizes.{size-between, size-up-to}
 
 -- the six tests of a state
 pub record StateTests (p : Profile) (s : State) : Type 0 where
@@ -52,12 +51,9 @@ tests-allow p s h =
     all-six (zeroAllowed p s) (tareAllowed p s) (lineAllowed s) (displayAllowed s) (waitingAllowed p s) (repeatingAllowed s)
     (h .zero) (h .tare) (h .line) (h .display) (h .waiting) (h .repeating)
 
--- zero by its size, the tare by its order and its size, and the other cases
+-- what the cases above know of it; zero's range is only kept
 pub record AllowedState (p : Profile) (s : State) : Type 0 where
-  pub zero-size : natAbs (s .weighing .zero .0) ≤ p .zeroing
-  pub tare-least : leZ (pos 0) (s .weighing .tare .0) ≡ true
-  pub tare-most : leZ (s .weighing .tare .0) (pos (p .capacity)) ≡ true
-  pub tare-size : natAbs (s .weighing .tare .0) ≤ p .capacity
+  pub tare : s .weighing .tare .0 ≤ p .capacity
   pub line : s .line .len ≤ 64
   pub display : s .display .shown ≡ true → textAllowed20 (s .display .text) ≡ true
   pub waiting : isPending (s .waiting .pending) ≡ true → s .waiting .unstable < p .timeout
@@ -67,17 +63,8 @@ pub record AllowedState (p : Profile) (s : State) : Type 0 where
 pub allowed-state : (p : Profile) (s : State) → stateAllowed p s ≡ true → AllowedState p s
 allowed-state p s h =
     let tests : StateTests p s = allowed-tests p s h in
-    let zero = s .weighing .zero .0 in
-    let tare = s .weighing .tare .0 in
-    let zero-low = both-left (leZ (negℤ (pos (p .zeroing))) zero) (leZ zero (pos (p .zeroing))) (tests .zero) in
-    let zero-high = both-right (leZ (negℤ (pos (p .zeroing))) zero) (leZ zero (pos (p .zeroing))) (tests .zero) in
-    let tare-low = both-left (leZ (pos 0) tare) (leZ tare (pos (p .capacity))) (tests .tare) in
-    let tare-high = both-right (leZ (pos 0) tare) (leZ tare (pos (p .capacity))) (tests .tare) in
     record {
-      zero-size = size-between (p .zeroing) (p .zeroing) zero (omega arith) zero-low zero-high;
-      tare-least = tare-low;
-      tare-most = tare-high;
-      tare-size = size-up-to (p .capacity) tare tare-low tare-high;
+      tare = leb-true _ _ (tests .tare);
       line = leb-true _ _ (tests .line);
       display = implied (s .display .shown) (textAllowed20 (s .display .text)) (tests .display);
       waiting = λ e. ltb-true _ _ (implied (isPending (s .waiting .pending)) (ltb (s .waiting .unstable) (p .timeout)) (tests .waiting) e);

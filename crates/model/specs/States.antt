@@ -18,7 +18,7 @@ zeroAllowed p s = leZ (negℤ (pos (p .zeroing))) (s .weighing .zero .0) && leZ 
 
 -- tare in its range: 0..C
 abbrev pub tareAllowed : Profile → State → Bool
-tareAllowed p s = leZ (pos 0) (s .weighing .tare .0) && leZ (s .weighing .tare .0) (pos (p .capacity))
+tareAllowed p s = leb (s .weighing .tare .0) (p .capacity)
 
 -- not over 64 line bytes held
 abbrev pub lineAllowed : State → Bool
@@ -57,7 +57,7 @@ unfoldable pub startState : State
 startState =
     record {
       line = emptyLine;
-      weighing = record { zero = record { 0 = pos 0 }; tare = record { 0 = pos 0 }; sampled = false; load = record { 0 = pos 0 }; stable = false };
+      weighing = record { zero = record { 0 = pos 0 }; tare = record { 0 = 0 }; sampled = false; load = record { 0 = pos 0 }; stable = false };
       waiting = record { pending = Nothing; unstable = 0 };
       repeating = false;
       display = record { shown = false; text = record { bytes = replicate 20 0; len = 0 } };

@@ -9,11 +9,13 @@ use crate::profile::Text20;
 use crate::profile::is_text_allowed20;
 use crate::signed::at_most;
 use crate::signed::from_count;
+use crate::signed::from_load;
 use crate::signed::negative_of;
 use crate::weighing::Load;
 use crate::weighing::Weighing;
 use line::Line;
 use weight::Micrograms;
+use weight::Tare;
 
 // The command that waits for a stable sample: S, Z or T.
 pub enum Pending {
@@ -78,18 +80,19 @@ pub fn is_state_allowed(profile: Profile, state: State) -> bool
     ensures { λ r. ⌜ r ≡ stateAllowed profile state ⌝ }
 {
     let weighing = state.weighing;
+    let zero = weighing.zero;
+    let tare = weighing.tare;
     let waiting = state.waiting;
     let pending = waiting.pending;
     let display = state.display;
-    let zero = is_between(
+    let zero_allowed = is_between(
         negative_of(profile.zeroing),
-        weighing.zero,
+        from_load(zero),
         from_count(profile.zeroing),
     );
-    let tare = is_between(from_count(0), weighing.tare, from_count(profile.capacity));
     let patient = !is_pending(pending) | (waiting.unstable < profile.timeout);
-    zero
-        & tare
+    zero_allowed
+        & (tare.0 <= profile.capacity)
         & (state.line.len <= LINE_LIMIT)
         & is_display_allowed(display)
         & patient
@@ -110,8 +113,8 @@ pub fn start_state() -> State
         returned: false,
     };
     let weighing = Weighing {
-        zero: Micrograms(0),
-        tare: Micrograms(0),
+        zero: Load(0),
+        tare: Tare(0),
         sampled: false,
         load: Load(0),
         stable: false,

@@ -1,12 +1,13 @@
 // Zero, tare and the latest sample.
-use weight::Micrograms;
+use weight::Tare;
 
 // A sample's load, in micrograms.
 pub struct Load(pub i32);
 
 pub struct Weighing {
-    pub zero: Micrograms,
-    pub tare: Micrograms,
+    // The load that counts as nothing.
+    pub zero: Load,
+    pub tare: Tare,
     // Whether there was a sample since power-on, and the latest one.
     pub sampled: bool,
     pub load: Load,

@@ -1,25 +1,26 @@
 // The state of power-on with one thing changed.
 use model::Display;
+use model::Load;
 use model::Pending;
 use model::State;
 use model::Text20;
 use model::Waiting;
 use model::start_state;
-use weight::Micrograms;
+use weight::Tare;
 
-pub fn zeroed(zero: i64) -> State {
+pub fn zeroed(zero: i32) -> State {
     let mut state = start_state();
     let mut weighing = state.weighing;
-    let changed = Micrograms(zero);
+    let changed = Load(zero);
     weighing.zero = changed;
     state.weighing = weighing;
     state
 }
 
-pub fn tared(tare: i64) -> State {
+pub fn tared(tare: u32) -> State {
     let mut state = start_state();
     let mut weighing = state.weighing;
-    let changed = Micrograms(tare);
+    let changed = Tare(tare);
     weighing.tare = changed;
     state.weighing = weighing;
     state

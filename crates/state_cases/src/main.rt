@@ -62,8 +62,8 @@ fn weighings() {
     try_state(b"zero -4400001: ", zeroed(-4_400_001));
     try_state(b"tare 220000000: ", tared(220_000_000));
     try_state(b"tare 220000001: ", tared(220_000_001));
-    try_state(b"tare -1: ", tared(-1));
-    try_sample(b"tare -1, a sample: ", tared(-1));
+    try_state(b"tare 4294967295: ", tared(4_294_967_295));
+    try_sample(b"tare 4294967295, a sample: ", tared(4_294_967_295));
 }
 
 fn lines() {

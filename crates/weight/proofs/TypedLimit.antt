@@ -7,7 +7,6 @@ use Prim.Native.Nat.{ℕ, suc, _*_, _^_, _≤_, _<_}
 use native.Mathlib.Nat.{mul-le-mul, mul-le-mul-right, lt-of-le-of-lt, lt-of-not-le}
 use native.Mathlib.Omega.{arith}
 use borrow.Author.Tests.{le-leb, lt-leb}
-use lib.IntN.{pos}
 use lib.ListN.{length}
 use Rattle.weight.specs.declared.units.WeightUnit.{WeightUnit}
 use Rattle.weight.specs.declared.typed.Typed.the-variants.{Amount, TooLarge, NotTyped}
@@ -41,7 +40,7 @@ pub amount-large : (m : ℕ) → largestCapacity < m → TooLarge ≡ amountOf m
 unfolding amountOf
 amount-large m h = rw (lt-leb m largestCapacity h)
 
-pub amount-small : (m : ℕ) → m ≤ largestCapacity → Amount (record { 0 = pos m }) ≡ amountOf m
+pub amount-small : (m : ℕ) → m ≤ largestCapacity → Amount (record { 0 = m }) ≡ amountOf m
 unfolding amountOf
 amount-small m h = rw (le-leb m largestCapacity h)
 

@@ -4,7 +4,6 @@ use Prim.Native.Nat.{ℕ, suc, _-_, _*_, _^_, _≤_, _<_}
 use mathlib.Core.Bool.{Bool, cond, _&&_}
 use mathlib.Core.List.{List}
 use lib.Dec.{leb}
-use lib.IntN.{pos}
 use lib.ListN.{length}
 use Rattle.weight.specs.declared.units.WeightUnit.{WeightUnit}
 use Rattle.weight.specs.declared.typed.Typed.{Typed}
@@ -30,7 +29,7 @@ abbrev pub largestCapacity : ℕ
 largestCapacity = 1_000_000_000
 
 unfoldable pub amountOf : ℕ → Typed
-amountOf m = cond (leb m largestCapacity) (Amount (record { 0 = pos m })) TooLarge
+amountOf m = cond (leb m largestCapacity) (Amount (record { 0 = m })) TooLarge
 
 unfoldable pub readTyped : WeightUnit → List ℕ → Typed
 readTyped u t = cond (isTyped t) (amountOf (typedMicrograms u (decimalsIn t) (valueIn t))) NotTyped

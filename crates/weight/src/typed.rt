@@ -4,14 +4,16 @@ ghost use Prim.Native.Nat.{_^_, _≤_, _<_};
 ghost use Rattle.weight.specs.Rounding.{halfUp};
 ghost use Rattle.weight.specs.Typed.{MostPlaces, typedMicrograms, amountOf, readTyped};
 use crate::reading::read_decimal;
-use crate::rounding::Micrograms;
 use crate::rounding::scale_of;
 use crate::units::WeightUnit;
 use crate::units::nanograms_of;
 
+// A tare, in micrograms: it is never below zero.
+pub struct Tare(pub u32);
+
 // What a typed text is read as.
 pub enum Typed {
-    Amount(Micrograms),
+    Amount(Tare),
     // Above the largest capacity of any profile.
     TooLarge,
     NotTyped,
@@ -63,7 +65,7 @@ fn amount(unit: WeightUnit, decimals: u8, value: u64) -> Typed
     if LARGEST_CAPACITY < rounded {
         return Typed::TooLarge;
     }
-    Typed::Amount(Micrograms(rounded as i64))
+    Typed::Amount(Tare(rounded as u32))
 }
 
 pub fn read_typed(unit: WeightUnit, text: &[u8]) -> Typed

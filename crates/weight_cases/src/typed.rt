@@ -11,7 +11,7 @@ pub fn typed(unit: WeightUnit, text: &[u8]) {
     show::quoted(text);
     let found = weight::read_typed(unit, text);
     match found {
-        Typed::Amount(m) => show::whole(m.0),
+        Typed::Amount(m) => show::whole(m.0 as i64),
         Typed::TooLarge => show::text(b" too large"),
         Typed::NotTyped => show::text(b" no"),
     }

@@ -20,7 +20,7 @@ with-repeating-requires-2 : tie.Need-with-repeating-requires-2
 with-repeating-requires-2 c κs = search needs
 
 begun-requires : tie.Need-begun-requires
-begun-requires c κs = rw (c .with-repeating2 .ensures) (c .before .before .pre)
+begun-requires c κs = search needs
 
 returns-2 : tie.Need-returns-2
 unfolding weighing

@@ -8,9 +8,6 @@ use Rattle.line.proofs.parameter.amount_rule.Tie as tie
 enum-known-typed : tie.Need-enum-known-typed
 enum-known-typed c = search needs
 
-size-of-requires : tie.Need-size-of-requires
-size-of-requires c κs = search needs
-
 enum-told : tie.Need-enum-told
 enum-told c = search needs
 
@@ -34,7 +31,6 @@ amount-rule-spec =
     tie.close
     (tie.spec
     enum-known-typed
-    size-of-requires
     enum-told
     enum-told-2
     returns

@@ -5,6 +5,9 @@ use Rattle.model.specs.States.{stateAllowed}
 use Rattle.model.proofs.state.is_state_allowed.Statement.{statement}
 use Rattle.model.proofs.state.is_state_allowed.Tie as tie
 
+from-load-requires : tie.Need-from-load-requires
+from-load-requires c κs = search needs
+
 negative-of-requires : tie.Need-negative-of-requires
 negative-of-requires c κs = search needs
 
@@ -13,15 +16,6 @@ from-count-requires c κs = search needs
 
 is-between-requires : tie.Need-is-between-requires
 is-between-requires c κs = search needs
-
-from-count-requires-2 : tie.Need-from-count-requires-2
-from-count-requires-2 c κs = search needs
-
-from-count-requires-3 : tie.Need-from-count-requires-3
-from-count-requires-3 c κs = search needs
-
-is-between-requires-2 : tie.Need-is-between-requires-2
-is-between-requires-2 c κs = search needs
 
 is-pending-requires : tie.Need-is-pending-requires
 is-pending-requires c κs = search needs
@@ -32,18 +26,15 @@ is-display-allowed-requires c κs = search needs
 returns : tie.Need-returns
 unfolding stateAllowed
 returns c =
-    let waits = c .before .before .before .before .before .before in
-    let tares = waits .before in
-    let zeros = tares .before .before .before in
+    let waits = c .before .before .before .before .before .before .before .before in
+    let zeros = waits .before in
     simp (
       c .before .before .is-display-allowed .ensures,
       waits .is-pending .ensures,
-      tares .is-between2 .ensures,
-      tares .before .from-count3 .ensures,
-      tares .before .before .from-count2 .ensures,
       zeros .is-between .ensures,
       zeros .before .from-count .ensures,
-      zeros .before .before .negative-of .ensures,
+      zeros .before .before .from-load .ensures,
+      zeros .before .before .before .negative-of .ensures,
     )
 
 pub is-state-allowed-spec : {M : Type 1} → statement M
@@ -51,11 +42,9 @@ is-state-allowed-spec =
     tie.close
     (tie.spec
     negative-of-requires
+    from-load-requires
     from-count-requires
     is-between-requires
-    from-count-requires-2
-    from-count-requires-3
-    is-between-requires-2
     is-pending-requires
     is-display-allowed-requires
     returns)

@@ -2,8 +2,6 @@ use mathlib.Core.Path.{_≡_}
 use Prim.Native.Nat.{_*_, _^_, _<_}
 use native.Mathlib.Omega.{arith}
 use borrow.Author.Needs.{needs}
-use mir.Facts.{toZ-pos}
-use mir.Syntax.{w64}
 use Rattle.weight.specs.Typed.{typedMicrograms}
 use Rattle.weight.proofs.Allowed.{power-positive}
 use Rattle.weight.proofs.Range.{scale-limit}
@@ -61,12 +59,11 @@ returns-2 : tie.Need-returns-2
 returns-2 c = rw (← (rounded-at (c .before))) (amount-large _ (c .if2 .taken))
 
 cast-t9 : tie.Need-cast-t9
-cast-t9 c = record { sfits = omega (arith, c .if2 .left) }
+cast-t9 c = record { fits = omega (arith, c .if2 .left) }
 
 returns-3 : tie.Need-returns-3
 returns-3 c =
-    let small : c .before .half-up .result < 2 ^ 63 = omega (arith, c .if2 .left) in
-    rw (← (rounded-at (c .before)), toZ-pos w64 small) (amount-small _ (c .if2 .left))
+    rw (← (rounded-at (c .before))) (amount-small _ (c .if2 .left))
 
 pub amount-spec : {M : Type 1} → statement M
 amount-spec =

@@ -1,0 +1,44 @@
+-- One law for each way of S, Z and T, and of an unstable sample while one of them waits.
+-- Assumes nothing.
+use Prim.Native.Nat.{ℕ, _+_, _≤_, _<_}
+use mathlib.Core.Path.{_≡_}
+use mathlib.Core.Bool.{true, false, _&&_}
+use borrow.Author.Tests.{le-leb, lt-leb}
+use Rattle.answer.specs.declared.answer.Answer.{Answer}
+use Rattle.answer.specs.declared.answer.Answer.the-variants as answers
+use Rattle.answer.specs.declared.answer.Status.the-variants.{I}
+use Rattle.waiting.specs.declared.react.Reaction.{Reaction}
+use Rattle.weighing.specs.declared.weighing.Measured.{Measured}
+use Rattle.waiting.specs.Waits.{begun, measuredReaction, notWaiting, placeOfPending, reaction, settled, waited, withWaiting}
+use Rattle.weighing.specs.Weighings.{headOf}
+use Rattle.model.specs.declared.profile.Profile.{Profile}
+use Rattle.model.specs.declared.state.Pending.{Pending}
+use Rattle.model.specs.declared.state.State.{State}
+use Rattle.model.specs.declared.state.Waiting.{Waiting}
+
+module _ (p : Profile) (s : State) {r : Reaction} where
+  -- judged at once
+  pub begun-judged : (pending : Pending) {m : Measured} → (s .weighing .sampled && s .weighing .stable) ≡ true
+      → m ≡ settled p pending (s .weighing) → r ≡ measuredReaction s m → r ≡ begun p s pending
+  unfolding begun
+  begun-judged pending t m h = rw (h, m, t)
+
+  -- the command waits
+  pub begun-waiting : (pending : Pending) {w : Waiting} {t : State} → (s .weighing .sampled && s .weighing .stable) ≡ false
+      → w ≡ record { pending = pending; unstable = 0 } → t ≡ withWaiting s w → r ≡ reaction t answers.Nothing → r ≡ begun p s pending
+  unfolding begun
+  begun-waiting pending f w t h = rw (h, t, w, f)
+
+  -- the W-th unstable sample
+  pub waited-out : {w : Waiting} {t : State} {c : ℕ} {a : Answer} → p .timeout ≤ s .waiting .unstable + 1
+      → w ≡ notWaiting → t ≡ withWaiting s w → c ≡ placeOfPending (s .waiting .pending) → a ≡ answers.Plain (headOf c I) → r ≡ reaction t a
+      → r ≡ waited p s
+  unfolding waited
+  waited-out last w t c a h = rw (h, a, c, t, w, le-leb (p .timeout) (s .waiting .unstable + 1) last)
+
+  -- one before it
+  pub waited-on : {w : Waiting} {t : State} → s .waiting .unstable + 1 < p .timeout
+      → w ≡ record { pending = s .waiting .pending; unstable = s .waiting .unstable + 1 } → t ≡ withWaiting s w → r ≡ reaction t answers.Nothing
+      → r ≡ waited p s
+  unfolding waited
+  waited-on more w t h = rw (h, t, w, lt-leb (p .timeout) (s .waiting .unstable + 1) more)

@@ -1,0 +1,95 @@
+// S, Z and T: judged at a stable sample, and else waiting.
+ghost use mathlib.Core.Path.{_≡_};
+ghost use Rattle.waiting.specs.Waits as meaning;
+use crate::groups::with_waiting;
+use crate::react::Reaction;
+use crate::react::answered;
+use crate::react::measured_reaction;
+use answer::Answer;
+use answer::S;
+use answer::Status;
+use answer::T;
+use answer::Z;
+use model::Pending;
+use model::Profile;
+use model::State;
+use model::Waiting;
+use model::Weighing;
+use weighing::Measured;
+use weighing::plain;
+use weighing::tared;
+use weighing::unchanged;
+use weighing::weighed;
+use weighing::zeroed;
+
+// The identification of what waits.
+fn place_of(pending: Pending) -> u8
+    ensures { λ r. ⌜ r ≡ meaning.placeOfPending pending ⌝ }
+{
+    match pending {
+        Pending::Nothing => 0,
+        Pending::Weigh => S,
+        Pending::Zero => Z,
+        Pending::Tare => T,
+    }
+}
+
+fn waiting_for(pending: Pending, unstable: u32) -> Waiting
+    ensures { λ r. ⌜ r ≡ record { pending = pending; unstable = unstable } ⌝ }
+{
+    Waiting { pending, unstable }
+}
+
+pub fn not_waiting() -> Waiting
+    ensures { λ r. ⌜ r ≡ meaning.notWaiting ⌝ }
+{
+    Waiting {
+        pending: Pending::Nothing,
+        unstable: 0,
+    }
+}
+
+// What a waiting command makes of a stable sample.
+pub fn settled(profile: Profile, pending: Pending, weighing: Weighing) -> Measured
+    ensures { λ r. ⌜ r ≡ meaning.settled profile pending weighing ⌝ }
+{
+    match pending {
+        Pending::Nothing => unchanged(weighing, Answer::Nothing),
+        Pending::Weigh => unchanged(weighing, weighed(profile, weighing)),
+        Pending::Zero => zeroed(profile, weighing, Z, Status::A),
+        Pending::Tare => tared(profile, weighing, T),
+    }
+}
+
+// The latest sample is judged if it is stable; otherwise the command waits.
+pub fn begun(profile: Profile, state: State, pending: Pending) -> Reaction
+    ensures { λ r. ⌜ r ≡ meaning.begun profile state pending ⌝ }
+{
+    let weighing = state.weighing;
+    if weighing.sampled & weighing.stable {
+        return measured_reaction(state, settled(profile, pending, weighing));
+    }
+    answered(
+        with_waiting(state, waiting_for(pending, 0)),
+        Answer::Nothing,
+    )
+}
+
+// One more unstable sample while a command waits.
+pub fn waited(profile: Profile, state: State) -> Reaction
+    ensures { λ r. ⌜ r ≡ meaning.waited profile state ⌝ }
+{
+    let waiting = state.waiting;
+    let pending = waiting.pending;
+    let unstable = waiting.unstable as u64 + 1;
+    if profile.timeout as u64 <= unstable {
+        return answered(
+            with_waiting(state, not_waiting()),
+            plain(place_of(pending), Status::I),
+        );
+    }
+    answered(
+        with_waiting(state, waiting_for(pending, unstable as u32)),
+        Answer::Nothing,
+    )
+}

@@ -1,0 +1,98 @@
+-- One law for each answer of S, Z, T and their kin: what the tests have shown gives the meaning.
+-- Assumes nothing.
+use Prim.Native.Nat.{ℕ}
+use mathlib.Core.Path.{_≡_}
+use mathlib.Core.Bool.{Bool, true, false}
+use lib.IntN.{ℤ, pos, negℤ, natAbs}
+use lib.Signed.{ltZ}
+use Rattle.answer.specs.declared.answer.Answer.{Answer}
+use Rattle.answer.specs.declared.answer.Answer.the-variants.{Plain, Weight}
+use Rattle.answer.specs.declared.answer.Number.{Number}
+use Rattle.answer.specs.declared.answer.Status.{Status}
+use Rattle.answer.specs.declared.answer.Status.the-variants.{Over, Under}
+use Rattle.model.specs.declared.profile.Profile.{Profile}
+use Rattle.model.specs.declared.weighing.Weighing.{Weighing}
+use Rattle.weighing.specs.declared.weighing.Measured.{Measured}
+use Rattle.weighing.specs.Weighings.{grossOf, netOf, headOf, stability, numberOf, weighed, withTare, withZero, zeroed, tared}
+
+module _ (p : Profile) (w : Weighing) {gross : ℤ} (g : gross ≡ grossOf w) where
+  pub weighed-over : {over : Bool} {a : Answer} → over ≡ ltZ (pos (p .capacity)) gross → over ≡ true → a ≡ Plain (headOf 6 Over) → a ≡ weighed p w
+  unfolding weighed
+  weighed-over e t r = rw (r, ← g, ← e, t)
+
+  pub weighed-under : {over under : Bool} {a : Answer} → over ≡ ltZ (pos (p .capacity)) gross → over ≡ false
+      → under ≡ ltZ gross (negℤ (pos (p .underload))) → under ≡ true → a ≡ Plain (headOf 6 Under) → a ≡ weighed p w
+  unfolding weighed
+  weighed-under e t f u r = rw (r, ← g, ← e, t, ← f, u)
+
+  pub weighed-net : {over under : Bool} {net : ℤ} {status : Status} {n : Number} {a : Answer}
+      → over ≡ ltZ (pos (p .capacity)) gross
+      → over ≡ false
+      → under ≡ ltZ gross (negℤ (pos (p .underload)))
+      → under ≡ false
+      → net ≡ netOf w
+      → status ≡ stability w
+      → n ≡ numberOf p net
+      → a ≡ Weight (headOf 6 status) n
+      → a ≡ weighed p w
+  unfolding weighed
+  weighed-net e t f u h s n r = rw (r, n, s, h, ← g, ← e, t, ← f, u)
+
+  pub tared-over : {over : Bool} {a : Answer} {m : Measured} (c : ℕ) → over ≡ ltZ (pos (p .capacity)) gross → over ≡ true
+      → a ≡ Plain (headOf c Over) → m ≡ record { weighing = w; answer = a } → m ≡ tared p w c
+  unfolding tared
+  tared-over c e t r m = rw (m, r, ← g, ← e, t)
+
+  pub tared-under : {over under : Bool} {a : Answer} {m : Measured} (c : ℕ)
+      → over ≡ ltZ (pos (p .capacity)) gross
+      → over ≡ false
+      → under ≡ ltZ gross (pos 0)
+      → under ≡ true
+      → a ≡ Plain (headOf c Under)
+      → m ≡ record { weighing = w; answer = a }
+      → m ≡ tared p w c
+  unfolding tared
+  tared-under c e t f u r m = rw (m, r, ← g, ← e, t, ← f, u)
+
+  pub tared-gross : {over under : Bool} {status : Status} {n : Number} {a : Answer} {v : Weighing} (c : ℕ)
+      → over ≡ ltZ (pos (p .capacity)) gross
+      → over ≡ false
+      → under ≡ ltZ gross (pos 0)
+      → under ≡ false
+      → status ≡ stability w
+      → n ≡ numberOf p gross
+      → a ≡ Weight (headOf c status) n
+      → {tare : ℕ}
+      → tare ≡ natAbs gross
+      → v ≡ withTare w tare
+      → record { weighing = v; answer = a } ≡ tared p w c
+  unfolding tared
+  tared-gross c e t f u s n r k v = rw (v, k, r, n, s, ← g, ← e, t, ← f, u)
+
+module _ (p : Profile) (w : Weighing) {load : ℤ} (g : load ≡ w .load .0) where
+  pub zeroed-over : {over : Bool} {a : Answer} {m : Measured} (c : ℕ) (granted : Status) → over ≡ ltZ (pos (p .zeroing)) load → over ≡ true
+      → a ≡ Plain (headOf c Over) → m ≡ record { weighing = w; answer = a } → m ≡ zeroed p w c granted
+  unfolding zeroed
+  zeroed-over c granted e t r m = rw (m, r, ← g, ← e, t)
+
+  pub zeroed-under : {over under : Bool} {a : Answer} {m : Measured} (c : ℕ) (granted : Status)
+      → over ≡ ltZ (pos (p .zeroing)) load
+      → over ≡ false
+      → under ≡ ltZ load (negℤ (pos (p .zeroing)))
+      → under ≡ true
+      → a ≡ Plain (headOf c Under)
+      → m ≡ record { weighing = w; answer = a }
+      → m ≡ zeroed p w c granted
+  unfolding zeroed
+  zeroed-under c granted e t f u r m = rw (m, r, ← g, ← e, t, ← f, u)
+
+  pub zeroed-load : {over under : Bool} {a : Answer} {v : Weighing} (c : ℕ) (granted : Status)
+      → over ≡ ltZ (pos (p .zeroing)) load
+      → over ≡ false
+      → under ≡ ltZ load (negℤ (pos (p .zeroing)))
+      → under ≡ false
+      → a ≡ Plain (headOf c granted)
+      → v ≡ withZero w (w .load .0)
+      → record { weighing = v; answer = a } ≡ zeroed p w c granted
+  unfolding zeroed
+  zeroed-load c granted e t f u r v = rw (v, r, ← g, ← e, t, ← f, u)

@@ -1,0 +1,115 @@
+-- Document 01, "Weights" and "What each command does": gross and net, and what S, Z, T and their kin make of them.
+-- Assumes nothing.
+use Prim.Native.Nat.{ℕ}
+use mathlib.Core.Bool.{Bool, true, false, cond, _||_}
+use lib.IntN.{ℤ, pos, negℤ, natAbs, _-ℤ_}
+use lib.Signed.{ltZ}
+use Rattle.answer.specs.declared.answer.Answer.{Answer}
+use Rattle.answer.specs.declared.answer.Answer.the-variants.{Plain, Weight}
+use Rattle.answer.specs.declared.answer.Head.{Head}
+use Rattle.answer.specs.declared.answer.Number.{Number}
+use Rattle.answer.specs.declared.answer.Status.{Status}
+use Rattle.answer.specs.declared.answer.Status.the-variants.{A, S, D, Over, Under}
+use Rattle.model.specs.declared.profile.Profile.{Profile}
+use Rattle.model.specs.declared.weighing.Load.{Load}
+use Rattle.model.specs.declared.weighing.Weighing.{Weighing}
+use Rattle.weighing.specs.declared.weighing.Measured.{Measured}
+use Rattle.weight.specs.Printing.{printedNumber}
+
+-- ---- the places of the commands in I0's order
+
+abbrev pub placeS : ℕ
+placeS = 6
+
+abbrev pub placeZ : ℕ
+placeZ = 9
+
+abbrev pub placeZI : ℕ
+placeZI = 10
+
+abbrev pub placeD : ℕ
+placeD = 12
+
+abbrev pub placeDW : ℕ
+placeDW = 13
+
+abbrev pub placeT : ℕ
+placeT = 14
+
+abbrev pub placeTA : ℕ
+placeTA = 15
+
+abbrev pub placeTAC : ℕ
+placeTAC = 16
+
+abbrev pub placeTI : ℕ
+placeTI = 17
+
+-- ---- weights
+
+-- Gross = load - zero
+abbrev pub grossOf : Weighing → ℤ
+grossOf w = w .load .0 -ℤ w .zero .0
+
+-- Net = gross - tare
+abbrev pub netOf : Weighing → ℤ
+netOf w = grossOf w -ℤ pos (w .tare .0)
+
+abbrev pub headOf : ℕ → Status → Head
+headOf c s = record { identification = c; status = s }
+
+-- a weight as it is printed
+abbrev pub numberOf : Profile → ℤ → Number
+numberOf p weight =
+    record { decimals = p .resolution .decimals; places = printedNumber (p .resolution) weight .places; unit = p .resolution .unit }
+
+-- S for a stable sample, D for one that is not
+abbrev pub stability : Weighing → Status
+stability w = cond (w .stable) S D
+
+abbrev pub chosenWeighing : Bool → Weighing → Weighing → Weighing
+chosenWeighing true a b = a
+chosenWeighing false a b = b
+
+-- the answer by two tests: +, - or what is granted
+abbrev pub inLimits : ℕ → Bool → Bool → Answer → Answer
+inLimits c over under granted = cond over (Plain (headOf c Over)) (cond under (Plain (headOf c Under)) granted)
+
+-- S, SI, SIR: gross > C gives S +, gross < -U gives S -, else the net
+unfoldable pub weighed : Profile → Weighing → Answer
+weighed p w =
+    inLimits placeS (ltZ (pos (p .capacity)) (grossOf w)) (ltZ (grossOf w) (negℤ (pos (p .underload))))
+    (Weight (headOf placeS (stability w)) (numberOf p (netOf w)))
+
+abbrev pub withZero : Weighing → ℤ → Weighing
+withZero w zero = record { zero = record { 0 = zero }; tare = record { 0 = 0 }; sampled = w .sampled; load = w .load; stable = w .stable }
+
+abbrev pub withTare : Weighing → ℕ → Weighing
+withTare w tare = record { zero = w .zero; tare = record { 0 = tare }; sampled = w .sampled; load = w .load; stable = w .stable }
+
+abbrev pub withSample : Weighing → Load → Bool → Weighing
+withSample w load stable = record { zero = w .zero; tare = w .tare; sampled = true; load = load; stable = stable }
+
+-- Z, ZI: load > R gives +, load < -R gives -; else zero becomes the load and tare becomes 0
+unfoldable pub zeroed : Profile → Weighing → ℕ → Status → Measured
+zeroed p w c granted =
+    let over = ltZ (pos (p .zeroing)) (w .load .0) in
+    let under = ltZ (w .load .0) (negℤ (pos (p .zeroing))) in
+    record {
+      weighing = chosenWeighing (over || under) w (withZero w (w .load .0));
+      answer = inLimits c over under (Plain (headOf c granted));
+    }
+
+-- T, TI: gross > C gives +, gross < 0 gives -; else tare becomes gross, which has no sign then, and is the weight of the answer
+unfoldable pub tared : Profile → Weighing → ℕ → Measured
+tared p w c =
+    let over = ltZ (pos (p .capacity)) (grossOf w) in
+    let under = ltZ (grossOf w) (pos 0) in
+    record {
+      weighing = chosenWeighing (over || under) w (withTare w (natAbs (grossOf w)));
+      answer = inLimits c over under (Weight (headOf c (stability w)) (numberOf p (grossOf w)));
+    }
+
+-- TA: the tare as a weight
+abbrev pub tareAnswer : Profile → ℕ → Answer
+tareAnswer p tare = Weight (headOf placeTA A) (numberOf p (pos tare))

@@ -1,0 +1,15 @@
+// Zero, tare and the latest sample: gross and net, and what S, Z, T and their kin make of them.
+// The crates above use the promises of the functions named here and the definitions of specs/.
+mod signed;
+mod weighing;
+
+pub use weighing::Measured;
+pub use weighing::plain;
+pub use weighing::stability;
+pub use weighing::tare_answer;
+pub use weighing::tared;
+pub use weighing::unchanged;
+pub use weighing::weighed;
+pub use weighing::with_sample;
+pub use weighing::with_tare;
+pub use weighing::zeroed;

@@ -1,0 +1,209 @@
+// Zero, tare and the latest sample, and what the commands do with them.
+ghost use mathlib.Core.Path.{_≡_};
+ghost use lib.IntN.{pos, negℤ};
+ghost use lib.Signed.{ltZ};
+ghost use Rattle.weighing.specs.Weighings as meaning;
+use crate::signed::minus;
+use crate::signed::tare_of;
+use answer::Answer;
+use answer::Head;
+use answer::Number;
+use answer::S;
+use answer::Status;
+use answer::TA;
+use model::Load;
+use model::Profile;
+use model::Weighing;
+use model::above;
+use model::from_count;
+use model::from_load;
+use model::negative_of;
+use weight::Micrograms;
+use weight::Tare;
+use weight::printed_number;
+
+// What a command made of the weighing, and its answer.
+pub struct Measured {
+    pub weighing: Weighing,
+    pub answer: Answer,
+}
+
+fn gross_of(weighing: Weighing) -> Micrograms
+    ensures { λ r. ⌜ r .0 ≡ meaning.grossOf weighing ⌝ }
+{
+    let load = weighing.load;
+    let zero = weighing.zero;
+    minus(from_load(load), from_load(zero))
+}
+
+fn net_of(weighing: Weighing) -> Micrograms
+    ensures { λ r. ⌜ r .0 ≡ meaning.netOf weighing ⌝ }
+{
+    let tare = weighing.tare;
+    minus(gross_of(weighing), from_count(tare.0))
+}
+
+// Whether a weight is above a limit of the profile.
+fn is_over(weight: Micrograms, limit: u32) -> bool
+    ensures { λ r. ⌜ r ≡ ltZ (pos limit) (weight .0) ⌝ }
+{
+    above(weight, from_count(limit))
+}
+
+// Whether a weight is below zero by more than a limit of the profile.
+fn is_under(weight: Micrograms, limit: u32) -> bool
+    ensures { λ r. ⌜ r ≡ ltZ (weight .0) (negℤ (pos limit)) ⌝ }
+{
+    above(negative_of(limit), weight)
+}
+
+// A weight as it is printed.
+fn number_of(profile: Profile, weight: Micrograms) -> Number
+    ensures { λ r. ⌜ r ≡ meaning.numberOf profile (weight .0) ⌝ }
+{
+    let resolution = profile.resolution;
+    let unit = resolution.unit;
+    let printed = printed_number(resolution, weight);
+    let places = printed.places;
+    Number {
+        decimals: resolution.decimals,
+        places,
+        unit,
+    }
+}
+
+// An answer of identification and status alone.
+pub fn plain(command: u8, status: Status) -> Answer
+    ensures { λ r. ⌜ r ≡ Answer.Plain (meaning.headOf command status) ⌝ }
+{
+    Answer::Plain(Head {
+        identification: command,
+        status,
+    })
+}
+
+fn weight_answer(command: u8, status: Status, number: Number) -> Answer
+    ensures { λ r. ⌜ r ≡ Answer.Weight (meaning.headOf command status) number ⌝ }
+{
+    Answer::Weight(
+        Head {
+            identification: command,
+            status,
+        },
+        number,
+    )
+}
+
+pub fn unchanged(weighing: Weighing, answer: Answer) -> Measured
+    ensures { λ r. ⌜ r ≡ record { weighing = weighing; answer = answer } ⌝ }
+{
+    Measured { weighing, answer }
+}
+
+pub fn stability(weighing: Weighing) -> Status
+    ensures { λ r. ⌜ r ≡ meaning.stability weighing ⌝ }
+{
+    if weighing.stable {
+        return Status::S;
+    }
+    Status::D
+}
+
+// S, SI and SIR.
+pub fn weighed(profile: Profile, weighing: Weighing) -> Answer
+    ensures { λ r. ⌜ r ≡ meaning.weighed profile weighing ⌝ }
+{
+    let gross = gross_of(weighing);
+    if is_over(gross, profile.capacity) {
+        return plain(S, Status::Over);
+    }
+    if is_under(gross, profile.underload) {
+        return plain(S, Status::Under);
+    }
+    weight_answer(S, stability(weighing), number_of(profile, net_of(weighing)))
+}
+
+// Zero becomes the load, and tare becomes 0.
+fn with_zero(weighing: Weighing) -> Weighing
+    ensures { λ r. ⌜ r ≡ meaning.withZero weighing (weighing .load .0) ⌝ }
+{
+    let load = weighing.load;
+    Weighing {
+        zero: load,
+        tare: Tare(0),
+        sampled: weighing.sampled,
+        load,
+        stable: weighing.stable,
+    }
+}
+
+pub fn with_tare(weighing: Weighing, tare: Tare) -> Weighing
+    ensures { λ r. ⌜ r ≡ meaning.withTare weighing (tare .0) ⌝ }
+{
+    let zero = weighing.zero;
+    let load = weighing.load;
+    Weighing {
+        zero,
+        tare,
+        sampled: weighing.sampled,
+        load,
+        stable: weighing.stable,
+    }
+}
+
+pub fn with_sample(weighing: Weighing, load: Load, stable: bool) -> Weighing
+    ensures { λ r. ⌜ r ≡ meaning.withSample weighing load stable ⌝ }
+{
+    let zero = weighing.zero;
+    let tare = weighing.tare;
+    Weighing {
+        zero,
+        tare,
+        sampled: true,
+        load,
+        stable,
+    }
+}
+
+// Z and ZI, with the status of what is granted.
+pub fn zeroed(profile: Profile, weighing: Weighing, command: u8, granted: Status) -> Measured
+    ensures { λ r. ⌜ r ≡ meaning.zeroed profile weighing command granted ⌝ }
+{
+    let load = weighing.load;
+    let weight = from_load(load);
+    if is_over(weight, profile.zeroing) {
+        return unchanged(weighing, plain(command, Status::Over));
+    }
+    if is_under(weight, profile.zeroing) {
+        return unchanged(weighing, plain(command, Status::Under));
+    }
+    Measured {
+        weighing: with_zero(weighing),
+        answer: plain(command, granted),
+    }
+}
+
+// T and TI.
+pub fn tared(profile: Profile, weighing: Weighing, command: u8) -> Measured
+    ensures { λ r. ⌜ r ≡ meaning.tared profile weighing command ⌝ }
+{
+    let gross = gross_of(weighing);
+    if is_over(gross, profile.capacity) {
+        return unchanged(weighing, plain(command, Status::Over));
+    }
+    if is_under(gross, 0) {
+        return unchanged(weighing, plain(command, Status::Under));
+    }
+    let answer = weight_answer(command, stability(weighing), number_of(profile, gross));
+    Measured {
+        weighing: with_tare(weighing, tare_of(gross)),
+        answer,
+    }
+}
+
+// TA: the tare as a weight.
+pub fn tare_answer(profile: Profile, tare: Tare) -> Answer
+    ensures { λ r. ⌜ r ≡ meaning.tareAnswer profile (tare .0) ⌝ }
+{
+    weight_answer(TA, Status::A, number_of(profile, from_count(tare.0)))
+}

@@ -52,6 +52,14 @@ pub opposite-fits : (n : ℕ) → n < 2 ^ 63 → SFits w64 (negℤ (pos n))
 opposite-fits zero h = sfits-lit tt
 opposite-fits (suc n) h = record { sfits = omega arith }
 
+-- and in a machine word
+module _ (n : ℕ) (h : n < 2 ^ 63) where
+  pub opposite-asks : SFits w64 (pos 0 -ℤ toZ w64 n)
+  opposite-asks = rw (toZ-pos w64 h, +ℤ-idl) (opposite-fits n h)
+
+  pub opposite-gives : toZ w64 (ofZ w64 (pos 0 -ℤ toZ w64 n)) ≡ negℤ (pos n)
+  opposite-gives = rw (toZ-pos w64 h, +ℤ-idl) (toZ-ofZ (opposite-fits n h))
+
 -- below zero
 below-zero : (n : ℤ) → ltZ n (pos 0) ≡ not (nonNeg n)
 below-zero (pos n) = le-ltb n 0 zero-le

@@ -31,8 +31,8 @@ is-below-zero-requires c κs = search needs
 digit-room-requires : tie.Need-digit-room-requires
 digit-room-requires c κs = search needs
 
-size-of-requires : tie.Need-size-of-requires
-size-of-requires c κs = search needs
+size-of-number-requires : tie.Need-size-of-number-requires
+size-of-number-requires c κs = search needs
 
 power-of-ten-requires : tie.Need-power-of-ten-requires
 power-of-ten-requires c κs = search needs
@@ -47,6 +47,6 @@ fits-spec =
     returns
     is-below-zero-requires
     digit-room-requires
-    size-of-requires
+    size-of-number-requires
     power-of-ten-requires
     returns-2)

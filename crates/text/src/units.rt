@@ -22,31 +22,31 @@ pub fn unit_text(unit: WeightUnit) -> UnitText
 {
     match unit {
         WeightUnit::G => UnitText {
-            cells: *b"g  ",
+            cells: [b'g', b' ', b' '],
             len: 1,
         },
         WeightUnit::Mg => UnitText {
-            cells: *b"mg ",
+            cells: [b'm', b'g', b' '],
             len: 2,
         },
         WeightUnit::Ct => UnitText {
-            cells: *b"ct ",
+            cells: [b'c', b't', b' '],
             len: 2,
         },
         WeightUnit::Oz => UnitText {
-            cells: *b"oz ",
+            cells: [b'o', b'z', b' '],
             len: 2,
         },
         WeightUnit::Ozt => UnitText {
-            cells: *b"ozt",
+            cells: [b'o', b'z', b't'],
             len: 3,
         },
         WeightUnit::Gn => UnitText {
-            cells: *b"GN ",
+            cells: [b'G', b'N', b' '],
             len: 2,
         },
         WeightUnit::Dwt => UnitText {
-            cells: *b"dwt",
+            cells: [b'd', b'w', b't'],
             len: 3,
         },
     }

@@ -7,28 +7,21 @@ ghost use lib.IntN.{natAbs};
 ghost use lib.Signed.{nonNeg};
 ghost use Rattle.weight.specs.Field.{fitsField};
 use crate::integer::Integer;
-use crate::integer::is_negative;
 use crate::integer::magnitude;
 use crate::power::power_of_ten;
 use crate::rounding::LastPlaces;
-
-fn integer_of(places: LastPlaces) -> Integer
-    ensures { λ r. ⌜ r .0 ≡ places .0 ⌝ }
-{
-    Integer(places.0)
-}
 
 // How far from zero a number is.
 pub fn size_of_number(places: LastPlaces) -> u64
     ensures { λ r. ⌜ r ≡ natAbs (places .0) ⌝ }
 {
-    magnitude(integer_of(places))
+    magnitude(Integer(places.0))
 }
 
 pub fn is_below_zero(places: LastPlaces) -> bool
     ensures { λ r. ⌜ r ≡ not (nonNeg (places .0)) ⌝ }
 {
-    is_negative(integer_of(places))
+    places.0 < 0
 }
 
 // How many digits ten characters hold beside the point and the minus.

@@ -19,13 +19,14 @@ pub struct Nanograms(pub u64);
 pub fn nanograms_of(unit: WeightUnit) -> Nanograms
     ensures { λ r. ⌜ r .0 ≡ nanogramsOf unit ⌝ }
 {
-    match unit {
-        WeightUnit::G => Nanograms(1_000_000_000),
-        WeightUnit::Mg => Nanograms(1_000_000),
-        WeightUnit::Ct => Nanograms(200_000_000),
-        WeightUnit::Oz => Nanograms(28_349_523_125),
-        WeightUnit::Ozt => Nanograms(31_103_476_800),
-        WeightUnit::Gn => Nanograms(64_798_910),
-        WeightUnit::Dwt => Nanograms(1_555_173_840),
-    }
+    let count: u64 = match unit {
+        WeightUnit::G => 1_000_000_000,
+        WeightUnit::Mg => 1_000_000,
+        WeightUnit::Ct => 200_000_000,
+        WeightUnit::Oz => 28_349_523_125,
+        WeightUnit::Ozt => 31_103_476_800,
+        WeightUnit::Gn => 64_798_910,
+        WeightUnit::Dwt => 1_555_173_840,
+    };
+    Nanograms(count)
 }

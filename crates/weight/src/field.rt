@@ -1,14 +1,13 @@
 // Whether a number fits the ten characters of a weight.
 ghost use mathlib.Core.Path.{_≡_};
 ghost use mathlib.Core.Bool.{cond, not};
-ghost use Prim.Native.Nat.{_-_};
+ghost use Prim.Native.Nat.{_-_, _^_};
 ghost use lib.Dec.{ltb};
 ghost use lib.IntN.{natAbs};
 ghost use lib.Signed.{nonNeg};
 ghost use Rattle.weight.specs.Field.{fitsField};
 use crate::integer::Integer;
 use crate::integer::magnitude;
-use crate::power::power_of_ten;
 use crate::rounding::LastPlaces;
 
 // How far from zero a number is.
@@ -24,20 +23,20 @@ pub fn is_below_zero(places: LastPlaces) -> bool
     places.0 < 0
 }
 
-// How many digits ten characters hold beside the point and the minus.
-fn digit_room(decimals: u8, negative: bool) -> usize
-    ensures { λ r. ⌜ r ≡ 10 - cond (ltb decimals 1) 0 1 - cond negative 1 0 ⌝ }
+// What the size of a number stays below in ten characters: they hold ten digits, and one less for a point and for a minus.
+fn size_limit(decimals: u8, negative: bool) -> u64
+    ensures { λ r. ⌜ r ≡ 10 ^ (10 - cond (ltb decimals 1) 0 1 - cond negative 1 0) ⌝ }
 {
     if decimals < 1 {
         if negative {
-            return 9;
+            return 1_000_000_000;
         }
-        return 10;
+        return 10_000_000_000;
     }
     if negative {
-        return 8;
+        return 100_000_000;
     }
-    9
+    1_000_000_000
 }
 
 // Whether a number has 0 to 6 decimals and is written in ten characters.
@@ -47,6 +46,5 @@ pub fn fits(decimals: u8, places: LastPlaces) -> bool
     if 6 < decimals {
         return false;
     }
-    let room = digit_room(decimals, is_below_zero(places));
-    size_of_number(places) < power_of_ten(room)
+    size_of_number(places) < size_limit(decimals, is_below_zero(places))
 }

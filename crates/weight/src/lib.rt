@@ -2,7 +2,6 @@
 // typed amounts. The crates above use the promises of the functions named here and the laws of proofs/.
 mod field;
 mod integer;
-mod power;
 mod printing;
 mod rounding;
 mod typed;

@@ -14,7 +14,6 @@ use crate::integer::magnitude;
 use crate::integer::of_natural;
 use crate::integer::plus;
 use crate::integer::times;
-use crate::power::power_of_ten;
 use crate::units::WeightUnit;
 use crate::units::nanograms_of;
 
@@ -59,12 +58,21 @@ pub fn divisor_of(resolution: Resolution) -> u64
     resolution.step as u64 * nanograms_of(unit).0
 }
 
-// The nanograms of a microgram, times 10^d: what a rounding multiplies by.
+// The nanograms of a microgram, times 10^d: what a rounding multiplies by. A match, and no table: a constant array is built anew at
+// every use.
 pub fn scale_of(decimals: u8) -> u64
     requires { ⌜ decimals ≤ 6 ⌝ }
     ensures { λ r. ⌜ r ≡ 1000 * 10 ^ decimals ⌝ }
 {
-    1000 * power_of_ten(decimals as usize)
+    match decimals {
+        0 => 1_000,
+        1 => 10_000,
+        2 => 100_000,
+        3 => 1_000_000,
+        4 => 10_000_000,
+        5 => 100_000_000,
+        _ => 1_000_000_000,
+    }
 }
 
 // Whether decimals and step are those of document 01, and the step is at least one microgram.

@@ -1,9 +1,9 @@
--- `digit_room` meets its contract: each way out is one of the four cases.
+-- `size_limit` meets its contract: each way out is one of the four cases.
 -- Assumes nothing.
 use native.Mathlib.Omega.{arith}
 use borrow.Author.Tests.{lt-ltb, le-ltb}
-use Rattle.weight.proofs.field.digit_room.Statement.{statement}
-use Rattle.weight.proofs.field.digit_room.Tie as tie
+use Rattle.weight.proofs.field.size_limit.Statement.{statement}
+use Rattle.weight.proofs.field.size_limit.Tie as tie
 
 returns : tie.Need-returns
 returns c = simp (lt-ltb _ _ (c .before .if1 .taken), c .if2 .taken) (omega arith)
@@ -17,5 +17,5 @@ returns-3 c = simp (le-ltb _ _ (c .before .if1 .left), c .if3 .taken) (omega ari
 returns-4 : tie.Need-returns-4
 returns-4 c = simp (le-ltb _ _ (c .before .if1 .left), c .if3 .left) (omega arith)
 
-pub digit-room-spec : {M : Type 1} → statement M
-digit-room-spec = tie.close (tie.spec returns returns-2 returns-3 returns-4)
+pub size-limit-spec : {M : Type 1} → statement M
+size-limit-spec = tie.close (tie.spec returns returns-2 returns-3 returns-4)

@@ -7,10 +7,12 @@ use Prim.Native.Nat.{ℕ, _+_, _≤_}
 use native.Mathlib.Omega.{arith}
 use lib.IntN.{ℤ}
 use lib.ListN.{length, take, drop, length-append}
-use Rattle.weight.specs.Ascii.{ascii, digit}
-use Rattle.weight.specs.Field.{fitsField, fieldOf, fieldIf, blank}
-use Rattle.weight.specs.Units.{unitText}
-use Rattle.weight.proofs.Width.{field-length}
+use Rattle.weight.specs.Ascii.{digit}
+use Rattle.text.specs.Ascii.{ascii}
+use Rattle.weight.specs.Field.{fitsField}
+use Rattle.text.specs.Field.{fieldOf, fieldIf, blank}
+use Rattle.text.specs.Units.{unitText}
+use Rattle.text.proofs.Width.{field-length}
 use Rattle.answer.specs.declared.answer.Status.{Status}
 use Rattle.answer.specs.declared.answer.Status.the-variants.{A, B, S, D, I, L, Over, Under}
 use Rattle.answer.specs.declared.answer.Head.{Head}
@@ -22,7 +24,7 @@ use Rattle.answer.specs.declared.answer.Answer.the-variants.{Nothing, Pl
 use Rattle.answer.specs.Commands.{nameOf, levelOf}
 use Rattle.answer.specs.Lines.{lineEnd, quoted, statusText, headText, weightText, listedLine, listedFrom, lineOf}
 use Rattle.answer.proofs.Names.{name-short}
-use Rattle.weight.proofs.Named.{unit-short}
+use Rattle.text.proofs.Named.{unit-short}
 
 -- ---- the parts
 

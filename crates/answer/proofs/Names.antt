@@ -11,9 +11,10 @@ use borrow.Author.Tests.{eqb-true, ne-eqb, leb-true}
 use lib.Dec.{leb, ltb, eqb}
 use lib.ListN.{length, take, getD, replicate, length-append, List·getD-eq-default}
 use lib.Seq.{take-append-seam, take-all, length-take-le}
-use Rattle.weight.specs.Ascii.{space, sameText}
+use Rattle.weight.specs.Ascii.{space}
+use Rattle.text.specs.Ascii.{sameText}
 use Rattle.weight.proofs.Allowed.{both-left, both-right}
-use Rattle.weight.proofs.Named.{same-is, same-self}
+use Rattle.text.proofs.Named.{same-is, same-self}
 use Rattle.answer.specs.Commands.{basicNames, names, nameOf, nameCells, levelOf, placeIn, placeOf, endsOf, allEnds, placeAmong}
 use Rattle.answer.specs.declared.command.Name.{Name}
 

@@ -6,9 +6,9 @@ use native.Mathlib.Omega.{arith}
 use lib.ListN.{length, take}
 use lib.Seq.{length-take-le}
 use Rattle.weight.specs.declared.units.WeightUnit.{WeightUnit}
-use Rattle.weight.specs.declared.units.UnitText.{UnitText}
-use Rattle.weight.specs.Units.{unitText, unitCells}
-use Rattle.weight.proofs.Named as W
+use Rattle.text.specs.declared.units.UnitText.{UnitText}
+use Rattle.text.specs.Units.{unitText, unitCells}
+use Rattle.text.proofs.Named as W
 
 -- the first cells of a unit are its text
 pub cells-unit : (n : UnitText) (u : WeightUnit) → n ≡ unitCells u → take (n .len) (n .cells) ≡ unitText u

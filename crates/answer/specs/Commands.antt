@@ -6,7 +6,8 @@ use mathlib.Core.List.{List, [], _∷_, _++_}
 use lib.Dec.{ltb, eqb}
 use lib.ListN.{length, getD, replicate}
 use Rattle.answer.specs.declared.command.Name.{Name}
-use Rattle.weight.specs.Ascii.{ascii, space, sameText}
+use Rattle.weight.specs.Ascii.{space}
+use Rattle.text.specs.Ascii.{ascii, sameText}
 
 -- level 0
 abbrev pub basicNames : List (List ℕ)

@@ -15,9 +15,11 @@ use Rattle.answer.specs.declared.answer.Answer.{Answer}
 use Rattle.answer.specs.declared.answer.Answer.the-variants.{Nothing, Plain, Weight, Refused, Text, Listed, CommandList, Versions}
 use Rattle.answer.specs.declared.emit.Emitted.{Emitted}
 use Rattle.answer.specs.Commands.{names, nameOf, levelOf}
-use Rattle.weight.specs.Ascii.{ascii, digit}
-use Rattle.weight.specs.Units.{unitText}
-use Rattle.weight.specs.Field.{fitsField, fieldIf}
+use Rattle.weight.specs.Ascii.{digit}
+use Rattle.text.specs.Ascii.{ascii}
+use Rattle.text.specs.Units.{unitText}
+use Rattle.weight.specs.Field.{fitsField}
+use Rattle.text.specs.Field.{fieldIf}
 
 -- CR LF
 abbrev pub lineEnd : List ℕ

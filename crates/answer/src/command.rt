@@ -3,8 +3,8 @@ ghost use mathlib.Core.Path.{_≡_};
 ghost use Prim.Native.Nat.{_+_, _*_, _≤_};
 ghost use lib.ListN.{length};
 ghost use Rattle.answer.specs.Commands.{nameOf, nameCells, levelOf, names, placeOf, endsOf, allEnds, placeAmong};
-ghost use Rattle.weight.specs.Ascii.{sameText};
-use weight::same_text;
+ghost use Rattle.text.specs.Ascii.{sameText};
+use text::same_text;
 
 pub const I0: u8 = 0;
 

@@ -7,8 +7,8 @@ ghost use lib.ListN.{length};
 ghost use lib.Seq.{sets};
 ghost use Rattle.answer.specs.Commands.{nameOf};
 ghost use Rattle.answer.specs.Lines.{lineEnd, quoted, statusText, headText, weightText, errorText, listedLine, listedFrom, lineOf, emitted, laidIn};
-ghost use Rattle.weight.specs.Ascii.{ascii};
-ghost use Rattle.weight.specs.Units.{unitText};
+ghost use Rattle.text.specs.Ascii.{ascii};
+ghost use Rattle.text.specs.Units.{unitText};
 use crate::answer::Answer;
 use crate::answer::Error;
 use crate::answer::Head;
@@ -19,9 +19,9 @@ use crate::command::TI;
 use crate::command::level_of;
 use crate::command::name_length;
 use crate::command::name_of;
+use text::field_of;
+use text::unit_text;
 use weight::WeightUnit;
-use weight::field_of;
-use weight::unit_text;
 
 const ZERO: u8 = 48;
 

@@ -7,9 +7,9 @@ use host::Read;
 use host::ReadText;
 use host::read_line;
 use host::write_line;
+use text::same_text;
 use weight::LastPlaces;
 use weight::WeightUnit;
-use weight::same_text;
 
 fn text(bytes: &[u8]) {
     io::write_all(1, bytes);
@@ -31,7 +31,7 @@ fn name(command: u8) {
 }
 
 fn unit(unit: WeightUnit) {
-    let named = weight::unit_text(unit);
+    let named = text::unit_text(unit);
     let bytes = named.cells;
     text(first(&bytes, named.len));
 }
@@ -63,7 +63,7 @@ fn aligned(field: &[u8]) {
 
 // As a field with no decimals, which holds every number that a field with some holds.
 fn whole(places: LastPlaces) {
-    let field = weight::field_of(0, places);
+    let field = text::field_of(0, places);
     let bytes = field.cells;
     aligned(&bytes);
 }

@@ -14,8 +14,10 @@ use Rattle.model.specs.declared.profile.Profile.{Profile}
 use Rattle.model.specs.declared.profile.Text20.{Text20}
 use Rattle.model.specs.declared.profile.Text40.{Text40}
 use Rattle.model.specs.declared.weighing.Weighing.{Weighing}
-use Rattle.weight.specs.Ascii.{ascii, space}
-use Rattle.weight.specs.Field.{lastDigits, digitsIn, digitsOf, decimalOf, numberText, widthOf, fitsField, fieldOf}
+use Rattle.weight.specs.Ascii.{space}
+use Rattle.text.specs.Ascii.{ascii}
+use Rattle.weight.specs.Field.{lastDigits, digitsIn, digitsOf, decimalOf, numberText, widthOf, fitsField}
+use Rattle.text.specs.Field.{fieldOf}
 use Rattle.weight.specs.Printing.{printable, printedNumber}
 use Rattle.weight.specs.Rounding.{allowedResolution, halfUp, roundAway, stepsOf, placesOf}
 use Rattle.weight.specs.declared.units.WeightUnit.{WeightUnit}

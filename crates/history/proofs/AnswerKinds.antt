@@ -20,7 +20,7 @@ use Rattle.answer.specs.Lines.{lineEnd, statusText, headText, listedLine, liste
 use Rattle.model.specs.declared.profile.Profile.{Profile}
 use Rattle.weighing.specs.Weighings.{headOf, placeS, placeZ, placeZI, placeD, placeDW, placeT, placeTA, placeTAC, placeTI}
 use Rattle.device.specs.Calls.{answerBytes}
-use Rattle.weight.specs.Ascii.{ascii}
+use Rattle.text.specs.Ascii.{ascii}
 use Rattle.history.specs.Tally.{grantsZero, grantsTare, grantsClear, tellsTare, tellsNet}
 
 -- what the five tests of the tally find in a line

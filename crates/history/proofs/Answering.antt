@@ -16,8 +16,8 @@ use Rattle.weighing.proofs.Reach.{between}
 use Rattle.weighing.specs.Weighings.{placeS, placeTAC, headOf, stability, grossOf, netOf, numberOf, inLimits, chosenWeighing, weighed, zeroed, tared, withZero, withTare, tareAnswer}
 use Rattle.device.specs.Calls.{answerBytes}
 use Rattle.model.specs.Profiles.{profileAllowed}
-use Rattle.weight.specs.Ascii.{ascii, sameText}
-use Rattle.weight.specs.Reading.{isDecimal}
+use Rattle.text.specs.Ascii.{ascii, sameText}
+use Rattle.text.specs.Reading.{isDecimal}
 use Rattle.weight.specs.Rounding.{exactFemtograms, Near}
 use Rattle.weight.specs.Printing.{printable}
 use Rattle.model.proofs.ProfileFacts.{allowed-profile}

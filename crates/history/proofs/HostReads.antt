@@ -25,8 +25,8 @@ use Rattle.host.specs.Forms.{plainForm, weightForm, isS, canForm}
 use Rattle.host.proofs.Inverse.{read-written}
 use Rattle.weight.specs.Printing.{printable}
 use Rattle.weight.specs.Rounding.{placesOf}
-use Rattle.weight.specs.Units.{unitText}
-use Rattle.weight.proofs.Named.{same-self}
+use Rattle.text.specs.Units.{unitText}
+use Rattle.text.proofs.Named.{same-self}
 
 -- each piece of the answer is read, and what is read of a weight that the tally takes is near enough
 abbrev pub ReadByHost : Profile → Answer → Type 0

@@ -23,9 +23,11 @@ use Rattle.history.specs.EndToEnd.{piecesAfter, piecesOf}
 use Rattle.answer.proofs.Names.{at-name}
 use Rattle.host.specs.Forms.{isIdentity, canForm}
 use Rattle.line.specs.Judging.{isPrintable}
-use Rattle.weight.specs.Ascii.{ascii, digit, space}
-use Rattle.weight.specs.Field.{lastDigits, digitsIn, digitsOf, decimalOf, numberText, widthOf, fitsField, fieldOf, blank}
-use Rattle.weight.specs.Units.{unitText}
+use Rattle.weight.specs.Ascii.{digit, space}
+use Rattle.text.specs.Ascii.{ascii}
+use Rattle.weight.specs.Field.{lastDigits, digitsIn, digitsOf, decimalOf, numberText, widthOf, fitsField}
+use Rattle.text.specs.Field.{fieldOf, blank}
+use Rattle.text.specs.Units.{unitText}
 use Rattle.weight.specs.declared.units.WeightUnit.{WeightUnit}
 use Rattle.weight.specs.declared.units.WeightUnit.the-variants.{G, Mg, Ct, Oz, Ozt, Gn, Dwt}
 use Rattle.weight.proofs.Allowed.{both-hold, both-left, both-right}

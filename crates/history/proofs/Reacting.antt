@@ -30,7 +30,7 @@ use Rattle.line.specs.declared.judge.Verdict.the-variants.{Refused, Reset, Busy
 use Rattle.line.specs.declared.receive.Line.{Line}
 use Rattle.line.specs.Judging.{isSI, isSIR, isZI, isTI, needsSample}
 use Rattle.line.specs.Unbounded.{Marked, endsUnbounded, finishedLine}
-use Rattle.weight.specs.Ascii.{ascii, sameText}
+use Rattle.text.specs.Ascii.{ascii, sameText}
 use Rattle.weight.proofs.Nearness.{near-refl}
 use Rattle.history.specs.Tally.{Tally, Input, byteIs, sampleIs, taken, ends, endedText, isResetLine, afterReset, withTareOf}
 use Rattle.history.proofs.AnswerKinds.{nothing-silent, refused-silent, list-silent, versions-silent, shown-silent, weight-shown-silent, denied-silent, text-silent, zeroed-zeroes, zeroed-now-zeroes, tared-tares, tared-now-tares}

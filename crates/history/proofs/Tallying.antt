@@ -7,8 +7,8 @@ use mathlib.Core.List.{List}
 use borrow.Author.Tests.{le-leb}
 use lib.IntN.{ℤ, pos, natAbs, _-ℤ_}
 use Rattle.model.specs.declared.profile.Profile.{Profile}
-use Rattle.weight.specs.Ascii.{ascii, sameText}
-use Rattle.weight.specs.Reading.{readField, isDecimal}
+use Rattle.text.specs.Ascii.{ascii, sameText}
+use Rattle.text.specs.Reading.{readField, isDecimal}
 use Rattle.weight.specs.Rounding.{placeFemtograms, printedFemtograms, exactFemtograms, placesOf, Near}
 use Rattle.history.specs.Tally.{Input, Tally, chosenTally, withTareOf, withZeroOf, taken, ends, ended, endedText, isResetLine, afterReset, latestOf, isLoaded, typedText, typedTare, exactWeight, allowance, numberFemtograms, isWhole, tenOf, compares, grantsZero, grantsTare, grantsClear, grantsTyped, granted, loadHolds, typedHolds, weightHolds, tallied, holds}
 use Rattle.history.proofs.AnswerKinds.{Silent, Zeroes, Tares, Clears, Tells, Weighs}

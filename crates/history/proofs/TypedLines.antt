@@ -11,11 +11,12 @@ use lib.ListN.{length}
 use Rattle.weight.specs.declared.units.WeightUnit.{WeightUnit}
 use Rattle.weight.specs.declared.typed.Tare.{Tare}
 use Rattle.weight.specs.declared.typed.Typed.the-variants.{Amount, TooLarge, NotTyped}
-use Rattle.weight.specs.Reading.{isDecimal, decimalsIn, valueIn}
+use Rattle.text.specs.Reading.{isDecimal, decimalsIn, valueIn}
 use Rattle.weight.specs.Rounding.{exactFemtograms, Near}
-use Rattle.weight.specs.Typed.{isTyped, typedMicrograms, typedFemtograms, largestCapacity, amountOf, readTyped}
+use Rattle.weight.specs.Typed.{typedMicrograms, typedFemtograms, largestCapacity, amountOf}
+use Rattle.text.specs.Typed.{isTyped, readTyped}
 use Rattle.weight.proofs.Allowed.{both-right}
-use Rattle.weight.proofs.DecimalText.{decimals-limit}
+use Rattle.text.proofs.DecimalText.{decimals-limit}
 use Rattle.weight.proofs.HalfStep.{typed-near}
 
 -- a typed number that C allows: it is a decimal, it is stored as a number up to C, and that is near what was typed

@@ -15,9 +15,9 @@ use Rattle.line.proofs.Kept.{Holds}
 use Rattle.line.proofs.Verdicts.{GoodLine, Shown, reset-line, reset-judged, run-line, preset-line, show-line, show-cells}
 use Rattle.weight.specs.declared.units.WeightUnit.{WeightUnit}
 use Rattle.weight.specs.declared.typed.Tare.{Tare}
-use Rattle.weight.specs.Ascii.{ascii, sameText}
+use Rattle.text.specs.Ascii.{ascii, sameText}
 use Rattle.weight.proofs.Allowed.{both-left, both-right}
-use Rattle.weight.proofs.Named.{same-is}
+use Rattle.text.proofs.Named.{same-is}
 use Rattle.history.specs.Tally.{isResetLine, typedText}
 use Rattle.history.proofs.TypedLines.{TypedAs, typed-as}
 

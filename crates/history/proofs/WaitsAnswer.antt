@@ -17,7 +17,8 @@ use Rattle.model.specs.Profiles.{identityText}
 use Rattle.weighing.specs.Weighings.{placeS, grossOf, netOf, headOf, numberOf, stability, inLimits, weighed, zeroed, tared}
 use Rattle.answer.specs.declared.answer.Status.{Status}
 use Rattle.answer.specs.declared.answer.Status.the-variants.{Over, Under}
-use Rattle.weight.specs.Ascii.{ascii, digit}
+use Rattle.weight.specs.Ascii.{digit}
+use Rattle.text.specs.Ascii.{ascii}
 use Rattle.history.specs.Waits.{isEmpty}
 
 -- nothing is sent

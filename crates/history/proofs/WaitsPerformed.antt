@@ -24,7 +24,7 @@ use Rattle.line.specs.declared.judge.Verdict.{Verdict}
 use Rattle.line.specs.declared.judge.Verdict.the-variants.{Refused, Reset, Busy, Wrong, NoSample, Run, Preset, Show}
 use Rattle.line.specs.declared.receive.Line.{Line}
 use Rattle.line.specs.Judging.{isSI, isSIR}
-use Rattle.weight.specs.Ascii.{ascii, sameText}
+use Rattle.text.specs.Ascii.{ascii, sameText}
 use Rattle.weight.proofs.Allowed.{neither-left, neither-right}
 use Rattle.history.proofs.WaitsAllowed.{by-choice}
 use Rattle.history.proofs.WaitsAnswer.{isSilent, weighed-sent, zeroed-sent, tared-sent}

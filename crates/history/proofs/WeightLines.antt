@@ -13,17 +13,18 @@ use Rattle.answer.specs.Lines.{lineEnd, headText, weightText, lineOf}
 use Rattle.model.specs.declared.profile.Profile.{Profile}
 use Rattle.weighing.specs.Weighings.{headOf, numberOf, placeS, placeT, placeTA, placeTI}
 use Rattle.device.specs.Calls.{answerBytes}
-use Rattle.weight.specs.declared.reading.FieldRead.the-variants.{Number as ReadNumber}
-use Rattle.weight.specs.Ascii.{ascii, sameText}
-use Rattle.weight.specs.Units.{unitText}
-use Rattle.weight.specs.Field.{fitsField, fieldOf}
-use Rattle.weight.specs.Reading.{readField}
+use Rattle.text.specs.declared.reading.FieldRead.the-variants.{Number as ReadNumber}
+use Rattle.text.specs.Ascii.{ascii, sameText}
+use Rattle.text.specs.Units.{unitText}
+use Rattle.weight.specs.Field.{fitsField}
+use Rattle.text.specs.Field.{fieldOf}
+use Rattle.text.specs.Reading.{readField}
 use Rattle.weight.specs.Rounding.{allowedResolution, inRange, placesOf}
 use Rattle.weight.specs.Printing.{printable, printedNumber}
 use Rattle.weight.proofs.Allowed.{both-right}
-use Rattle.weight.proofs.Named.{same-self}
-use Rattle.weight.proofs.ReadBack.{read-back}
-use Rattle.weight.proofs.Width.{field-length}
+use Rattle.text.proofs.Named.{same-self}
+use Rattle.text.proofs.ReadBack.{read-back}
+use Rattle.text.proofs.Width.{field-length}
 use Rattle.history.specs.Tally.{tenOf, isWhole}
 
 -- ---- four pieces, of which the first has ten characters

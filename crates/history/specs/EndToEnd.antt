@@ -15,8 +15,8 @@ use Rattle.history.specs.Tally.{Event, Tally, startTally, numberFemtogra
 use Rattle.host.specs.declared.reader.Read.{Read}
 use Rattle.host.specs.declared.reader.Read.the-variants as reads
 use Rattle.host.specs.Reads.{readLine}
-use Rattle.weight.specs.Ascii.{sameText}
-use Rattle.weight.specs.Units.{unitText}
+use Rattle.text.specs.Ascii.{sameText}
+use Rattle.text.specs.Units.{unitText}
 
 -- ---- an answer is split after every CR LF, a last unfinished piece included
 

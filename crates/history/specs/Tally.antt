@@ -9,13 +9,14 @@ use lib.ListN.{length, take, drop}
 use Rattle.model.specs.declared.profile.Profile.{Profile}
 use Rattle.line.specs.Unbounded.{Marked, endsUnbounded, afterMarked, finishedLine, byteIn, anyFaulty}
 use Rattle.line.specs.Judging.{beforeSpace, afterSpace}
-use Rattle.weight.specs.Ascii.{ascii, sameText}
-use Rattle.weight.specs.Units.{nanogramsOf, unitText}
+use Rattle.text.specs.Ascii.{ascii, sameText}
+use Rattle.weight.specs.Units.{nanogramsOf}
+use Rattle.text.specs.Units.{unitText}
 use Rattle.weight.specs.Rounding.{stepFemtograms, exactFemtograms}
-use Rattle.weight.specs.Reading.{readField, isDecimal, decimalsIn, valueIn}
+use Rattle.text.specs.Reading.{readField, isDecimal, decimalsIn, valueIn}
 use Rattle.weight.specs.Typed.{typedFemtograms}
-use Rattle.weight.specs.declared.reading.FieldRead.{FieldRead}
-use Rattle.weight.specs.declared.reading.FieldRead.the-variants.{Number, NoNumber}
+use Rattle.text.specs.declared.reading.FieldRead.{FieldRead}
+use Rattle.text.specs.declared.reading.FieldRead.the-variants.{Number, NoNumber}
 
 -- ---- what it is fed: each call's byte or sample with its mark, its refusal number and its answer
 

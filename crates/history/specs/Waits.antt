@@ -8,7 +8,7 @@ use mathlib.Core.List.{List, [], _∷_, map}
 use lib.Dec.{eqb}
 use Rattle.model.specs.declared.profile.Profile.{Profile}
 use Rattle.line.specs.Unbounded.{Marked, endsUnbounded, finishedLine, byteIn, anyFaulty}
-use Rattle.weight.specs.Ascii.{ascii, sameText}
+use Rattle.text.specs.Ascii.{ascii, sameText}
 use Rattle.history.specs.Claim.{OverCalls}
 use Rattle.history.specs.Tally.{Event, Input, byteIs, sampleIs, isResetLine}
 

@@ -18,10 +18,10 @@ use Rattle.host.specs.Forms.{isIdentity}
 use Rattle.host.specs.Reads.{errorGuess, statusGuess, weightGuess, headGuess, fieldGuess, unitGuess, listedGuess, namedGuess, guessed}
 use Rattle.line.specs.Judging.{beforeSpace, hasSpace}
 use Rattle.weight.specs.Ascii.{space}
-use Rattle.weight.specs.Reading.{readField}
-use Rattle.weight.specs.Units.{unitNamed}
-use Rattle.weight.specs.declared.reading.FieldRead.{FieldRead}
-use Rattle.weight.specs.declared.units.UnitRead.{UnitRead}
+use Rattle.text.specs.Reading.{readField}
+use Rattle.text.specs.Units.{unitNamed}
+use Rattle.text.specs.declared.reading.FieldRead.{FieldRead}
+use Rattle.text.specs.declared.units.UnitRead.{UnitRead}
 
 -- ---- the name before the first space
 

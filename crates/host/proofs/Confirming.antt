@@ -28,19 +28,19 @@ use Rattle.host.proofs.Frames.{plain-same, weight-same, text-same, list
 use Rattle.host.proofs.Places.{plain-place, weight-place, identity-place, identity-width}
 use Rattle.host.proofs.Shapes.{statusByte, weightRest, quotedEnd, plain-line, weight-line, text-line, listed-line}
 use Rattle.line.specs.Judging.{beforeSpace, afterSpace, hasSpace}
-use Rattle.weight.specs.Ascii.{ascii, sameText}
-use Rattle.weight.specs.Field.{fieldOf}
-use Rattle.weight.specs.Units.{unitText, firstNamed, unitNamed}
-use Rattle.weight.specs.declared.reading.FieldRead.{FieldRead}
-use Rattle.weight.specs.declared.reading.FieldRead.the-variants as fields
-use Rattle.weight.specs.declared.units.UnitRead.{UnitRead}
-use Rattle.weight.specs.declared.units.UnitRead.the-variants.{Named, Unknown}
+use Rattle.text.specs.Ascii.{ascii, sameText}
+use Rattle.text.specs.Field.{fieldOf}
+use Rattle.text.specs.Units.{unitText, firstNamed, unitNamed}
+use Rattle.text.specs.declared.reading.FieldRead.{FieldRead}
+use Rattle.text.specs.declared.reading.FieldRead.the-variants as fields
+use Rattle.text.specs.declared.units.UnitRead.{UnitRead}
+use Rattle.text.specs.declared.units.UnitRead.the-variants.{Named, Unknown}
 use Rattle.weight.specs.declared.units.WeightUnit.{WeightUnit}
 use Rattle.weight.proofs.Allowed.{both-left}
-use Rattle.weight.proofs.Named.{unit-write-back}
-use Rattle.weight.proofs.Searching.{first-between}
-use Rattle.weight.proofs.Width.{field-length}
-use Rattle.weight.proofs.WriteBack.{write-back}
+use Rattle.text.proofs.Named.{unit-write-back}
+use Rattle.text.proofs.Searching.{first-between}
+use Rattle.text.proofs.Width.{field-length}
+use Rattle.text.proofs.WriteBack.{write-back}
 
 -- ---- what a guess says of its line
 

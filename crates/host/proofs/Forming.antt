@@ -25,7 +25,7 @@ use Rattle.host.proofs.Places.{identity-width}
 use Rattle.host.proofs.Shapes.{quotedEnd, text-line}
 use Rattle.line.specs.Judging.{isPrintable}
 use Rattle.weight.specs.Field.{fitsField}
-use Rattle.weight.proofs.Named.{unit-short}
+use Rattle.text.proofs.Named.{unit-short}
 use Rattle.weight.proofs.Allowed.{both-left, both-right, either-holds}
 
 -- ---- what a form's test says

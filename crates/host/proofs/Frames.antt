@@ -14,8 +14,9 @@ use Rattle.answer.specs.Lines.{lineEnd}
 use Rattle.host.specs.Frames.{isEnded, weightFrame, errorFrame, quoteFrame, textFrame, listedFrame}
 use Rattle.host.proofs.Shapes.{weightRest, quotedEnd, listedByte}
 use Rattle.line.specs.Judging.{beforeSpace}
-use Rattle.weight.specs.Ascii.{digit, sameText}
-use Rattle.weight.proofs.Named.{same-is}
+use Rattle.weight.specs.Ascii.{digit}
+use Rattle.text.specs.Ascii.{sameText}
+use Rattle.text.proofs.Named.{same-is}
 
 -- ---- comparing texts
 

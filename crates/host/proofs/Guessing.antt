@@ -25,14 +25,16 @@ use Rattle.host.proofs.Named.{name-unspaced, before-word, word-spaced}
 use Rattle.host.proofs.Places.{plain-place, weight-place, identity-place}
 use Rattle.host.proofs.Shapes.{statusByte, status-back, weightRest, quotedEnd, listedByte, plain-line, weight-line, text-line, listed-line}
 use Rattle.line.specs.Judging.{hasSpace}
-use Rattle.weight.specs.Ascii.{ascii, digit}
-use Rattle.weight.specs.Field.{fitsField, fieldOf}
-use Rattle.weight.specs.Reading.{readField}
-use Rattle.weight.specs.Units.{unitText, unitNamed}
+use Rattle.weight.specs.Ascii.{digit}
+use Rattle.text.specs.Ascii.{ascii}
+use Rattle.weight.specs.Field.{fitsField}
+use Rattle.text.specs.Field.{fieldOf}
+use Rattle.text.specs.Reading.{readField}
+use Rattle.text.specs.Units.{unitText, unitNamed}
 use Rattle.weight.proofs.Allowed.{both-left}
-use Rattle.weight.proofs.Named.{unit-read-back}
-use Rattle.weight.proofs.ReadBack.{read-back}
-use Rattle.weight.proofs.Width.{field-length}
+use Rattle.text.proofs.Named.{unit-read-back}
+use Rattle.text.proofs.ReadBack.{read-back}
+use Rattle.text.proofs.Width.{field-length}
 
 -- ---- a word without a space, a space and a rest
 

@@ -13,9 +13,9 @@ use Rattle.host.specs.Forms.{canForm}
 use Rattle.host.specs.Reads.{guessed, textPlace, textAt, confirms, readLine}
 use Rattle.host.proofs.Forming.{text-back}
 use Rattle.host.proofs.Guessing.{guessed-back}
-use Rattle.weight.specs.Ascii.{sameText}
+use Rattle.text.specs.Ascii.{sameText}
 use Rattle.weight.proofs.Allowed.{both-left, both-right}
-use Rattle.weight.proofs.Named.{same-is, same-self}
+use Rattle.text.proofs.Named.{same-is, same-self}
 
 -- ---- writing what was read
 

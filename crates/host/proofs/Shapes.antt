@@ -12,9 +12,11 @@ use Rattle.answer.specs.declared.answer.Number.{Number}
 use Rattle.answer.specs.declared.answer.Status.{Status}
 use Rattle.answer.specs.declared.answer.Status.the-variants.{A, B, S, D, I, L, Over, Under}
 use Rattle.host.specs.Reads.{statusGuess}
-use Rattle.weight.specs.Ascii.{ascii, digit}
-use Rattle.weight.specs.Field.{fitsField, fieldOf}
-use Rattle.weight.specs.Units.{unitText}
+use Rattle.weight.specs.Ascii.{digit}
+use Rattle.text.specs.Ascii.{ascii}
+use Rattle.weight.specs.Field.{fitsField}
+use Rattle.text.specs.Field.{fieldOf}
+use Rattle.text.specs.Units.{unitText}
 
 -- ---- a status is one byte, and that byte tells it
 

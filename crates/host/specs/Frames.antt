@@ -11,7 +11,8 @@ use Rattle.answer.specs.Lines.{lineOf}
 use Rattle.answer.specs.declared.answer.Answer.{Answer}
 use Rattle.answer.specs.declared.answer.Answer.the-variants.{Nothing, Plain, Weight, Refused, Text, Listed, CommandList, Versions}
 use Rattle.line.specs.Judging.{beforeSpace}
-use Rattle.weight.specs.Ascii.{digit, sameText}
+use Rattle.weight.specs.Ascii.{digit}
+use Rattle.text.specs.Ascii.{sameText}
 
 -- CR LF
 abbrev pub isEnded : List ℕ → Bool

@@ -19,13 +19,13 @@ use Rattle.host.specs.declared.reader.Read.the-variants as reads
 use Rattle.host.specs.declared.reader.ReadText.{ReadText}
 use Rattle.host.specs.Forms.{canForm, isIdentity}
 use Rattle.line.specs.Judging.{beforeSpace, hasSpace}
-use Rattle.weight.specs.Ascii.{sameText}
-use Rattle.weight.specs.Reading.{readField}
-use Rattle.weight.specs.Units.{unitNamed}
-use Rattle.weight.specs.declared.reading.FieldRead.{FieldRead}
-use Rattle.weight.specs.declared.reading.FieldRead.the-variants.{Number, NoNumber}
-use Rattle.weight.specs.declared.units.UnitRead.{UnitRead}
-use Rattle.weight.specs.declared.units.UnitRead.the-variants.{Named, Unknown}
+use Rattle.text.specs.Ascii.{sameText}
+use Rattle.text.specs.Reading.{readField}
+use Rattle.text.specs.Units.{unitNamed}
+use Rattle.text.specs.declared.reading.FieldRead.{FieldRead}
+use Rattle.text.specs.declared.reading.FieldRead.the-variants.{Number, NoNumber}
+use Rattle.text.specs.declared.units.UnitRead.{UnitRead}
+use Rattle.text.specs.declared.units.UnitRead.the-variants.{Named, Unknown}
 
 -- ---- the answer that a line could be
 

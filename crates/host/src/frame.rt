@@ -8,7 +8,7 @@ use crate::scan::byte_at;
 use crate::scan::left;
 use answer::Answer;
 use answer::level_of;
-use weight::same_text;
+use text::same_text;
 
 const ZERO: u8 = 48;
 

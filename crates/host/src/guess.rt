@@ -18,10 +18,10 @@ use answer::I5;
 use answer::Number;
 use answer::Status;
 use answer::find_command;
-use weight::FieldRead;
-use weight::UnitRead;
-use weight::read_field;
-use weight::read_unit;
+use text::FieldRead;
+use text::UnitRead;
+use text::read_field;
+use text::read_unit;
 
 // By the second letter.
 fn error_guess(letter: u8) -> Answer

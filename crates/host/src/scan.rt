@@ -3,7 +3,7 @@ ghost use mathlib.Core.Path.{_≡_};
 ghost use Prim.Native.Nat.{_-_, _≤_};
 ghost use lib.ListN.{length, getD, take, drop};
 ghost use Rattle.line.specs.Judging.{beforeSpace};
-use weight::first_at;
+use text::first_at;
 
 // How many bytes stand before the first space; all of them where there is none.
 pub fn name_length(line: &[u8]) -> usize

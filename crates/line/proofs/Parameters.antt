@@ -17,11 +17,12 @@ use Rattle.weight.specs.declared.units.WeightUnit.{WeightUnit}
 use Rattle.weight.specs.declared.typed.Tare.{Tare}
 use Rattle.weight.specs.declared.typed.Typed.{Typed}
 use Rattle.weight.specs.declared.typed.Typed.the-variants.{Amount, TooLarge, NotTyped}
-use Rattle.weight.specs.Ascii.{space, sameText}
-use Rattle.weight.specs.Searching.{FirstAt}
-use Rattle.weight.proofs.Searching.{rest-is}
-use Rattle.weight.specs.Units.{unitText}
-use Rattle.weight.specs.Typed.{readTyped}
+use Rattle.weight.specs.Ascii.{space}
+use Rattle.text.specs.Ascii.{sameText}
+use Rattle.text.specs.Searching.{FirstAt}
+use Rattle.text.proofs.Searching.{rest-is}
+use Rattle.text.specs.Units.{unitText}
+use Rattle.text.specs.Typed.{readTyped}
 
 -- ---- D
 

@@ -19,8 +19,8 @@ use Rattle.line.specs.Judging.{afterSpace, hasSpace, hasControl, command
 use Rattle.line.specs.Parts.{showRule, presetRule, lastRows, textRows}
 use Rattle.weight.specs.declared.units.WeightUnit.{WeightUnit}
 use Rattle.weight.specs.Ascii.{space}
-use Rattle.weight.specs.Searching.{FirstAt}
-use Rattle.weight.proofs.Searching.{rest-is}
+use Rattle.text.specs.Searching.{FirstAt}
+use Rattle.text.proofs.Searching.{rest-is}
 
 -- ---- rows 6 to 8
 

@@ -7,7 +7,7 @@ use Prim.Native.Nat.{ℕ, _+_, _≤_, _<_}
 use lib.ListN.{length, getD}
 use borrow.Author.Tests.{eq-eqb, ne-eqb, lt-ltb, le-ltb, le-leb, lt-leb}
 use Rattle.line.specs.Judging.{hasControl, isPrintable}
-use Rattle.weight.proofs.Searching.{LeftAt, one-less, settled-by, none-left}
+use Rattle.text.proofs.Searching.{LeftAt, one-less, settled-by, none-left}
 
 -- ---- a byte below 32
 

@@ -46,12 +46,13 @@ use Rattle.weight.specs.declared.units.WeightUnit.{WeightUnit}
 use Rattle.weight.specs.declared.typed.Tare.{Tare}
 use Rattle.weight.specs.declared.typed.Typed.{Typed}
 use Rattle.weight.specs.declared.typed.Typed.the-variants.{Amount, TooLarge, NotTyped}
-use Rattle.weight.specs.Ascii.{ascii, space, sameText}
-use Rattle.weight.specs.Units.{unitText}
-use Rattle.weight.specs.Typed.{readTyped}
+use Rattle.weight.specs.Ascii.{space}
+use Rattle.text.specs.Ascii.{ascii, sameText}
+use Rattle.text.specs.Units.{unitText}
+use Rattle.text.specs.Typed.{readTyped}
 use Rattle.weight.proofs.Allowed.{both-right, neither-left, neither-right}
-use Rattle.weight.proofs.Named.{same-is}
-use Rattle.weight.proofs.Searching.{first-between, none-between}
+use Rattle.text.proofs.Named.{same-is}
+use Rattle.text.proofs.Searching.{first-between, none-between}
 
 -- ---- which row was reached
 

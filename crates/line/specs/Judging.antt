@@ -15,10 +15,11 @@ use Rattle.weight.specs.declared.units.WeightUnit.{WeightUnit}
 use Rattle.weight.specs.declared.typed.Tare.{Tare}
 use Rattle.weight.specs.declared.typed.Typed.{Typed}
 use Rattle.weight.specs.declared.typed.Typed.the-variants.{Amount, TooLarge, NotTyped}
-use Rattle.weight.specs.Ascii.{space, sameText}
-use Rattle.weight.specs.Searching.{beforeFirst, afterFirst, hasByte}
-use Rattle.weight.specs.Units.{unitText}
-use Rattle.weight.specs.Typed.{readTyped}
+use Rattle.weight.specs.Ascii.{space}
+use Rattle.text.specs.Ascii.{sameText}
+use Rattle.text.specs.Searching.{beforeFirst, afterFirst, hasByte}
+use Rattle.text.specs.Units.{unitText}
+use Rattle.text.specs.Typed.{readTyped}
 
 -- ---- a line's parts
 

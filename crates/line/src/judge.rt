@@ -5,7 +5,7 @@ ghost use Rattle.line.specs.Judging.{takesParameters, needsSample, judge
 ghost use Rattle.line.specs.Receiving.{lineLimit};
 ghost use Rattle.line.specs.Parts.{lastRows, textRows};
 ghost use Rattle.weight.specs.Ascii.{space};
-ghost use Rattle.weight.specs.Searching.{FirstAt};
+ghost use Rattle.text.specs.Searching.{FirstAt};
 use crate::parameter::preset_rule;
 use crate::parameter::show_rule;
 use crate::receive::Line;
@@ -20,9 +20,9 @@ use answer::TA;
 use answer::TI;
 use answer::ZI;
 use answer::find_command;
+use text::first_at;
 use weight::Tare;
 use weight::WeightUnit;
-use weight::first_at;
 
 pub enum Verdict {
     Refused(Error),

@@ -6,11 +6,11 @@ use crate::judge::Verdict;
 use crate::scan::is_printable;
 use answer::D;
 use answer::TA;
+use text::first_at;
+use text::is_unit;
+use text::read_typed;
 use weight::Typed;
 use weight::WeightUnit;
-use weight::first_at;
-use weight::is_unit;
-use weight::read_typed;
 
 const QUOTE: u8 = 34;
 

@@ -15,7 +15,7 @@ use crate::session::unknown;
 use crate::words::after;
 use crate::words::first_space;
 use crate::words::part;
-use weight::same_text;
+use text::same_text;
 
 const LARGEST_ROOM: u64 = 1024;
 

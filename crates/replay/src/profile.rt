@@ -7,10 +7,10 @@ use crate::words::word;
 use model::Profile;
 use model::Text20;
 use model::Text40;
+use text::UnitRead;
+use text::read_unit;
 use weight::Resolution;
-use weight::UnitRead;
 use weight::WeightUnit;
-use weight::read_unit;
 
 const LARGEST: u64 = 4_294_967_295;
 

@@ -1,12 +1,12 @@
 -- Signed machine operations as integers: what an operation asks of its operands and what it gives.
 -- Assumes nothing.
-use mathlib.Core.Path.{_≡_, refl, sym, subst}
-use mathlib.Core.Bool.{true, not}
+use mathlib.Core.Path.{_≡_, refl, sym, subst, _∙_}
+use mathlib.Core.Bool.{true, false, not}
 use Prim.Native.Nat.{ℕ, zero, suc, _+_, _/_, _^_, _≤_, _<_, zero-le}
 use native.Mathlib.Nat.{div-le-self, lt-of-le-of-lt, le-of-suc-le-suc}
 use native.Mathlib.Omega.{arith}
 use native.Mathlib.Numerals.{add-one}
-use borrow.Author.Tests.{le-ltb}
+use borrow.Author.Tests.{le-ltb, not-false}
 use lib.Dec.{T}
 use lib.IntN.{ℤ, pos, negsuc, negℤ, natAbs, _+ℤ_, _-ℤ_, sucℤ, +ℤ-idl, +ℤ-one}
 use lib.Signed.{mag, nonNeg, quotZ, remZ, ltZ, mag-rem}
@@ -40,17 +40,18 @@ module _ (n : ℤ) (d : ℕ) (f : SFits w64 n) (g : SFits w64 (pos d)) where
   pub rest-gives : toZ w64 (ofZ w64 (remZ (toZ w64 (ofZ w64 n)) (toZ w64 d))) ≡ remZ n (pos d)
   rest-gives = rw (toZ-ofZ f, toZ-pos w64 (g .sfits)) (toZ-ofZ (rest-fits d f))
 
-module _ (n : ℤ) (f : SFits w64 n) where
-  pub negate-asks : SFits w64 (negℤ n) → SFits w64 (pos 0 -ℤ toZ w64 (ofZ w64 n))
-  negate-asks g = rw (toZ-ofZ f, +ℤ-idl) g
-
-  pub negate-gives : SFits w64 (negℤ n) → toZ w64 (ofZ w64 (pos 0 -ℤ toZ w64 (ofZ w64 n))) ≡ negℤ n
-  negate-gives g = rw (toZ-ofZ f, +ℤ-idl) (toZ-ofZ g)
-
 -- the opposite of a natural number
 pub opposite-fits : (n : ℕ) → n < 2 ^ 63 → SFits w64 (negℤ (pos n))
 opposite-fits zero h = sfits-lit tt
 opposite-fits (suc n) h = record { sfits = omega arith }
+
+-- and in a machine word
+module _ (n : ℕ) (h : n < 2 ^ 63) where
+  pub opposite-asks : SFits w64 (pos 0 -ℤ toZ w64 n)
+  opposite-asks = rw (toZ-pos w64 h, +ℤ-idl) (opposite-fits n h)
+
+  pub opposite-gives : toZ w64 (ofZ w64 (pos 0 -ℤ toZ w64 n)) ≡ negℤ (pos n)
+  opposite-gives = rw (toZ-pos w64 h, +ℤ-idl) (toZ-ofZ (opposite-fits n h))
 
 -- below zero
 below-zero : (n : ℤ) → ltZ n (pos 0) ≡ not (nonNeg n)
@@ -64,12 +65,14 @@ nonneg-true : (n : ℤ) → nonNeg n ≡ true → T (nonNeg n)
 nonneg-true (pos n) e = tt
 nonneg-true (negsuc n) e = subst T (sym e) tt
 
-pub natural-asks : (n : ℤ) → SFits w64 n → nonNeg n ≡ true → T (nonNeg (toZ w64 (ofZ w64 n))) × Fits w64 (natAbs (toZ w64 (ofZ w64 n)))
-natural-asks n f e = rw (toZ-ofZ f) (nonneg-true n e, fits-natAbs tt f)
+pub natural-asks : (n : ℤ) → SFits w64 n → ltZ (toZ w64 (ofZ w64 n)) (pos 0) ≡ false
+    → T (nonNeg (toZ w64 (ofZ w64 n))) × Fits w64 (natAbs (toZ w64 (ofZ w64 n)))
+natural-asks n f e =
+    rw (toZ-ofZ f) (nonneg-true n (not-false (nonNeg n) (sym (negative-gives n f) ∙ e)), fits-natAbs tt f)
 
 -- ---- the size of a negative number, by way of the number above it
 
-pub record Above (n : ℤ) : Type 0 where
+record Above (n : ℤ) : Type 0 where
   pub fits : SFits w64 (n +ℤ pos 1)
   pub back : SFits w64 (negℤ (n +ℤ pos 1))
   pub natural : nonNeg (negℤ (n +ℤ pos 1)) ≡ true
@@ -80,8 +83,33 @@ above-succ : (n : ℤ) → SFits w64 (sucℤ n) → SFits w64 (negℤ (sucℤ n)
 above-succ n a b c d =
     record { fits = rw +ℤ-one a; back = rw +ℤ-one b; natural = rw +ℤ-one c; size = rw +ℤ-one d }
 
-pub above : (n : ℤ) → not (nonNeg n) ≡ true → SFits w64 n → Above n
+above : (n : ℤ) → not (nonNeg n) ≡ true → SFits w64 n → Above n
 above (pos n) e f = let z : _≡_ {A = ℕ} 0 1 = cc in absurd (omega arith)
 above (negsuc zero) e f = above-succ (negsuc zero) (sfits-lit tt) (sfits-lit tt) refl refl
 above (negsuc (suc n)) e f =
     above-succ (negsuc (suc n)) (record { sfits = omega (arith, f .sfits) }) (record { sfits = f .sfits }) refl (add-one (suc n))
+
+module _ (n : ℤ) (f : SFits w64 n) (e : ltZ (toZ w64 (ofZ w64 n)) (pos 0) ≡ true) where
+  next : Above n
+  next = above n (sym (negative-gives n f) ∙ e) f
+
+  pub above-asks : SFits w64 (toZ w64 (ofZ w64 n) +ℤ pos 1)
+  above-asks = rw (toZ-ofZ f) (next .fits)
+
+  pub back-asks : SFits w64 (pos 0 -ℤ toZ w64 (ofZ w64 (toZ w64 (ofZ w64 n) +ℤ pos 1)))
+  back-asks = rw (toZ-ofZ f, toZ-ofZ (next .fits), +ℤ-idl) (next .back)
+
+  abbrev back : ℤ
+  back = toZ w64 (ofZ w64 (pos 0 -ℤ toZ w64 (ofZ w64 (toZ w64 (ofZ w64 n) +ℤ pos 1))))
+
+  back-is : back ≡ negℤ (n +ℤ pos 1)
+  back-is = rw (toZ-ofZ f, toZ-ofZ (next .fits), +ℤ-idl) (toZ-ofZ (next .back))
+
+  pub back-natural : T (nonNeg back) × Fits w64 (natAbs back)
+  back-natural = rw back-is (nonneg-true (negℤ (n +ℤ pos 1)) (next .natural), fits-natAbs tt (next .back))
+
+  pub size-gives : natAbs back + 1 ≡ natAbs n
+  size-gives = rw back-is (next .size)
+
+  pub size-asks : Fits w64 (natAbs back + 1)
+  size-asks = rw size-gives (fits-natAbs tt f)

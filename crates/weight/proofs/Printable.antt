@@ -1,17 +1,15 @@
--- The printed number, by the three tests that lead to it.
+-- The printed number, by the tests that lead to it.
 -- Assumes nothing.
 use mathlib.Core.Path.{_≡_}
-use mathlib.Core.Bool.{Bool, true, false}
-use Prim.Native.Nat.{_≤_, _<_}
-use borrow.Author.Tests.{le-leb, lt-leb}
-use lib.IntN.{ℤ, natAbs}
+use mathlib.Core.Bool.{Bool, true, false, _&&_}
+use lib.IntN.{ℤ, pos}
 use Rattle.weight.specs.declared.rounding.Resolution.{Resolution}
-use Rattle.weight.specs.Rounding.{allowedResolution, netLimit, placesOf}
+use Rattle.weight.specs.Rounding.{allowedResolution, inRange, placesOf}
 use Rattle.weight.specs.Field.{fitsField}
-use Rattle.weight.specs.Printing.{printable, printedNumber, unprintedNumber}
+use Rattle.weight.specs.Printing.{printable, printedNumber}
 
 module _ (r : Resolution) (net : ℤ) where
-  pub no-number : printable r net ≡ false → unprintedNumber ≡ printedNumber r net
+  pub no-number : printable r net ≡ false → record { fits = false; places = record { 0 = pos 0 } } ≡ printedNumber r net
   unfolding printedNumber
   no-number e = rw e
 
@@ -19,14 +17,10 @@ module _ (r : Resolution) (net : ℤ) where
   unfolding printedNumber
   number-is e = rw e
 
-  pub not-allowed : allowedResolution r ≡ false → printable r net ≡ false
+  pub not-rounded : allowedResolution r && inRange net ≡ false → printable r net ≡ false
   unfolding printable
-  not-allowed e = rw e
+  not-rounded e = rw e
 
-  pub out-of-range : allowedResolution r ≡ true → netLimit < natAbs net → printable r net ≡ false
+  pub by-width : (b : Bool) → allowedResolution r && inRange net ≡ true → fitsField (r .decimals) (placesOf r net) ≡ b → printable r net ≡ b
   unfolding printable
-  out-of-range e h = rw (e, lt-leb (natAbs net) netLimit h)
-
-  pub by-width : (b : Bool) → allowedResolution r ≡ true → natAbs net ≤ netLimit → fitsField (r .decimals) (placesOf r net) ≡ b → printable r net ≡ b
-  unfolding printable
-  by-width b e h k = rw (e, le-leb (natAbs net) netLimit h) k
+  by-width b e k = rw e k

@@ -1,19 +1,15 @@
 -- A typed number whose product with its unit would leave a word is above every capacity.
 -- Assumes nothing.
 use mathlib.Core.Path.{_≡_}
-use mathlib.Core.Bool.{true, false}
-use mathlib.Core.List.{List}
 use Prim.Native.Nat.{ℕ, suc, _*_, _^_, _≤_, _<_}
 use native.Mathlib.Nat.{mul-le-mul, mul-le-mul-right, lt-of-le-of-lt, lt-of-not-le}
 use native.Mathlib.Omega.{arith}
 use borrow.Author.Tests.{le-leb, lt-leb}
-use lib.ListN.{length}
 use Rattle.weight.specs.declared.units.WeightUnit.{WeightUnit}
 use Rattle.weight.specs.declared.typed.Typed.the-variants.{Amount, TooLarge, NotTyped}
 use Rattle.weight.specs.Units.{nanogramsOf}
 use Rattle.weight.specs.Rounding.{halfUp}
-use Rattle.weight.specs.Reading.{isDecimal, decimalsIn, valueIn}
-use Rattle.weight.specs.Typed.{MostPlaces, typedMicrograms, largestCapacity, amountOf, isTyped, readTyped}
+use Rattle.weight.specs.Typed.{MostPlaces, typedMicrograms, largestCapacity, amountOf, typedAmount}
 use Rattle.weight.proofs.Allowed.{power-positive}
 use Rattle.weight.proofs.HalfUp.{half-up-tie-up}
 use Rattle.weight.proofs.Range.{scale-limit}
@@ -44,17 +40,13 @@ pub amount-small : (m : ℕ) → m ≤ largestCapacity → Amount (record { 0 = 
 unfolding amountOf
 amount-small m h = rw (le-leb m largestCapacity h)
 
--- ---- the tests of a typed text
+-- ---- the test of the decimals
 
-pub typed-long : (u : WeightUnit) (t : List ℕ) → 10 < length t → NotTyped ≡ readTyped u t
-unfolding readTyped isTyped
-typed-long u t h = rw (lt-leb (length t) 10 h)
+module _ (u : WeightUnit) (d v : ℕ) where
+  pub not-typed : 6 < d → NotTyped ≡ typedAmount u d v
+  unfolding typedAmount
+  not-typed h = rw (lt-leb d 6 h)
 
-module _ (u : WeightUnit) (t : List ℕ) (short : length t ≤ 10) where
-  pub typed-stray : isDecimal t ≡ false → NotTyped ≡ readTyped u t
-  unfolding readTyped isTyped
-  typed-stray e = rw (le-leb (length t) 10 short, e)
-
-  pub typed-good : isDecimal t ≡ true → amountOf (typedMicrograms u (decimalsIn t) (valueIn t)) ≡ readTyped u t
-  unfolding readTyped isTyped
-  typed-good e = rw (le-leb (length t) 10 short, e)
+  pub typed-amount : d ≤ 6 → typedAmount u d v ≡ amountOf (typedMicrograms u d v)
+  unfolding typedAmount
+  typed-amount h = rw (le-leb d 6 h)

@@ -9,9 +9,9 @@ use lib.Dec.{leb, ltb, leb·suc-suc}
 use lib.IntN.{ℤ, pos, negsuc, negℤ, natAbs}
 use lib.Pow.{pow-add}
 use lib.Signed.{nonNeg}
-use lib.ListN.{length, length-append, length-replicate}
+use lib.ListN.{length, length-append}
 use borrow.Author.Tests.{lt-ltb, le-ltb, le-leb, ltb-true, ltb-false, leb-true, leb-false}
-use Rattle.weight.specs.Field.{digitsOf, decimalOf, numberText, widthOf, fitsField, fieldOf}
+use Rattle.weight.specs.Field.{digitsOf, decimalOf, numberText, widthOf, fitsField}
 use Rattle.weight.proofs.Digits.{length-digits-small, length-digits-step, length-last-digits}
 
 -- two tests agree if each follows from the other
@@ -119,14 +119,10 @@ unfolding widthOf numberText
 width-parts d (pos m) = omega arith
 width-parts d (negsuc m) = omega arith
 
--- what fits is not over ten characters, and fills the field
+-- what fits is not over ten characters
 pub fits-width : (d : ℕ) (n : ℤ) → fitsField d n ≡ true → widthOf d n ≤ 10
 unfolding fitsField
 fits-width d n h = leb-true (widthOf d n) 10 (and-eq-true-iff (leb d 6) (leb (widthOf d n) 10) .0 h .1)
-
-pub field-length : (d : ℕ) (n : ℤ) → fitsField d n ≡ true → length (fieldOf d n) ≡ 10
-unfolding fieldOf widthOf
-field-length d n h = rw (length-append, length-replicate) (omega (arith, fits-width d n h))
 
 -- the same as two facts: the decimals and the size
 pub fits-facts : (d : ℕ) (n : ℤ) → fitsField d n ≡ true → (d ≤ 6) × (natAbs n < 10 ^ (10 - pointWidth d - minusWidth n))

@@ -1,15 +1,14 @@
--- Document 01, "Weights", how the printed number is written: right aligned in ten characters, d decimals, one zero before
--- the point if nothing else stands there, no other leading zeros, no point when d = 0, a minus directly before the first
--- digit only if the number is below zero.
+-- Document 01, "Weights", how the printed number is written: d decimals, one zero before the point if nothing else stands
+-- there, no other leading zeros, no point when d = 0, a minus directly before the first digit only if the number is below
+-- zero; and whether it fits ten characters.
 -- Assumes nothing.
-use Prim.Native.Nat.{ℕ, zero, suc, _-_, _/_, _%_, _^_}
-use mathlib.Core.Bool.{Bool, true, false, cond, _&&_}
+use Prim.Native.Nat.{ℕ, zero, suc, _/_, _%_, _^_}
+use mathlib.Core.Bool.{Bool, true, false, _&&_}
 use mathlib.Core.List.{List, [], _∷_, _++_}
 use lib.Dec.{leb, ltb}
 use lib.IntN.{ℤ, pos, negsuc}
-use lib.ListN.{length, replicate}
-use Rattle.weight.specs.declared.field.Field.{Field}
-use Rattle.weight.specs.Ascii.{space, minus, point, digit}
+use lib.ListN.{length}
+use Rattle.weight.specs.Ascii.{minus, point, digit}
 
 -- the last d digits of m
 unfoldable pub lastDigits : ℕ → ℕ → List ℕ
@@ -40,14 +39,3 @@ widthOf d n = length (numberText d n)
 -- 0 to 6 decimals, and not over ten characters
 unfoldable pub fitsField : ℕ → ℤ → Bool
 fitsField d n = leb d 6 && leb (widthOf d n) 10
-
--- ten characters, right aligned
-unfoldable pub fieldOf : ℕ → ℤ → List ℕ
-fieldOf d n = replicate (10 - widthOf d n) space ++ numberText d n
-
-abbrev pub blank : List ℕ
-blank = replicate 10 space
-
--- the field of a number if it fits, and else ten spaces
-abbrev pub fieldIf : Bool → ℕ → ℤ → Field
-fieldIf fits d n = record { fits = fits; cells = cond fits (fieldOf d n) blank }

@@ -1,9 +1,6 @@
 pub mod Ascii
-pub mod Decimals
 pub mod Field
 pub mod Printing
-pub mod Reading
 pub mod Rounding
-pub mod Searching
 pub mod Typed
 pub mod Units

@@ -1,7 +1,7 @@
 -- Document 01, "Weights": the printed number of a net weight, and whether it fits ten characters ("The profile").
 -- Assumes nothing.
 use Prim.Native.Nat.{ℕ}
-use mathlib.Core.Bool.{Bool, false, cond, _&&_}
+use mathlib.Core.Bool.{Bool, cond, _&&_}
 use lib.IntN.{ℤ, pos, negℤ}
 use Rattle.weight.specs.declared.printing.Printed.{Printed}
 use Rattle.weight.specs.declared.rounding.Resolution.{Resolution}
@@ -16,9 +16,6 @@ printable r net = allowedResolution r && inRange net && fitsField (r .decimals) 
 unfoldable pub printedNumber : Resolution → ℤ → Printed
 printedNumber r net =
     record { fits = printable r net; places = record { 0 = cond (printable r net) (placesOf r net) (pos 0) } }
-
-abbrev pub unprintedNumber : Printed
-unprintedNumber = record { fits = false; places = record { 0 = pos 0 } }
 
 -- the resolution is allowed, and the number of a net of m micrograms below zero fits ten characters
 abbrev pub fitsBelowZero : Resolution → ℕ → Bool

@@ -1,20 +1,13 @@
 -- Document 01, "What each command does", TA number unit: rounded once to the nearest microgram, a tie upwards.
 -- Assumes nothing.
 use Prim.Native.Nat.{ℕ, suc, _-_, _*_, _^_, _≤_, _<_}
-use mathlib.Core.Bool.{Bool, cond, _&&_}
-use mathlib.Core.List.{List}
+use mathlib.Core.Bool.{cond}
 use lib.Dec.{leb}
-use lib.ListN.{length}
 use Rattle.weight.specs.declared.units.WeightUnit.{WeightUnit}
 use Rattle.weight.specs.declared.typed.Typed.{Typed}
 use Rattle.weight.specs.declared.typed.Typed.the-variants.{Amount, TooLarge, NotTyped}
 use Rattle.weight.specs.Units.{nanogramsOf}
 use Rattle.weight.specs.Rounding.{halfUp}
-use Rattle.weight.specs.Reading.{isDecimal, decimalsIn, valueIn}
-
--- 1 to 10 characters, digits with at most one point that has digits on both sides, at most 6 decimals
-unfoldable pub isTyped : List ℕ → Bool
-isTyped t = leb (length t) 10 && isDecimal t
 
 -- v last places with d decimals, to the nearest microgram
 unfoldable pub typedMicrograms : WeightUnit → ℕ → ℕ → ℕ
@@ -31,8 +24,9 @@ largestCapacity = 1_000_000_000
 unfoldable pub amountOf : ℕ → Typed
 amountOf m = cond (leb m largestCapacity) (Amount (record { 0 = m })) TooLarge
 
-unfoldable pub readTyped : WeightUnit → List ℕ → Typed
-readTyped u t = cond (isTyped t) (amountOf (typedMicrograms u (decimalsIn t) (valueIn t))) NotTyped
+-- as a number with d decimals that is typed: one with more than 6 is none
+unfoldable pub typedAmount : WeightUnit → ℕ → ℕ → Typed
+typedAmount u d v = cond (leb d 6) (amountOf (typedMicrograms u d v)) NotTyped
 
 -- the largest number of last places whose product with a unit stays below 2^63
 pub record MostPlaces (u : WeightUnit) (n : ℕ) : Type 0 where

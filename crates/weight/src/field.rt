@@ -1,138 +1,42 @@
-// The ten characters of a weight: the number is written from its last digit to its first.
+// Whether a number fits the ten characters of a weight.
 ghost use mathlib.Core.Path.{_≡_};
 ghost use mathlib.Core.Bool.{cond, not};
-ghost use mathlib.Core.List.{_++_};
-ghost use Prim.Native.Nat.{_+_, _-_, _/_, _^_, _≤_};
+ghost use Prim.Native.Nat.{_-_, _^_};
 ghost use lib.Dec.{ltb};
 ghost use lib.IntN.{natAbs};
 ghost use lib.Signed.{nonNeg};
-ghost use lib.ListN.{length, take, drop};
-ghost use Rattle.weight.specs.Field.{digitsOf, lastDigits, decimalOf, numberText, widthOf, fitsField, fieldIf};
+ghost use Rattle.weight.specs.Field.{fitsField};
 use crate::integer::Integer;
-use crate::integer::is_negative;
 use crate::integer::magnitude;
-use crate::power::power_of_ten;
 use crate::rounding::LastPlaces;
 
-const SPACE: u8 = 32;
-
-const MINUS: u8 = 45;
-
-const POINT: u8 = 46;
-
-const ZERO: u8 = 48;
-
-// The cells are spaces where the number does not fit.
-pub struct Field {
-    pub fits: bool,
-    pub cells: [u8; 10],
-}
-
-// The byte of a digit.
-fn digit_byte(n: u64) -> u8
-    requires { ⌜ n ≤ 9 ⌝ }
-    ensures { λ r. ⌜ r ≡ 48 + n ⌝ }
-{
-    ZERO + n as u8
-}
-
-// Writes the last `count` digits of `value` so that they end before `end`; answers what stands above them.
-fn last_digits(out: &mut [u8], end: usize, count: usize, value: u64) -> u64
-    requires { ⌜ count ≤ end ⌝ }
-    requires { ⌜ end ≤ length (now out) ⌝ }
-    ensures { λ r. ⌜ r ≡ value / 10 ^ count ⌝ }
-    ensures { λ r. ⌜ now (out .exit) ≡ take (end - count) (now (out .entry)) ++ lastDigits count value ++ drop end (now (out .entry)) ⌝ }
-{
-    let first = end - count;
-    let mut rest = value;
-    let mut left = count;
-    while 0 < left {
-        left -= 1;
-        out[first + left] = digit_byte(rest % 10);
-        rest = rest / 10;
-    }
-    rest
-}
-
-// Writes all digits of `value` so that they end before `end`; answers where they start.
-fn all_digits(out: &mut [u8], end: usize, value: u64) -> usize
-    requires { ⌜ length (digitsOf value) ≤ end ⌝ }
-    requires { ⌜ end ≤ length (now out) ⌝ }
-    ensures { λ r. ⌜ r + length (digitsOf value) ≡ end ⌝ }
-    ensures { λ r. ⌜ now (out .exit) ≡ take r (now (out .entry)) ++ digitsOf value ++ drop end (now (out .entry)) ⌝ }
-{
-    let mut rest = value;
-    let mut at = end;
-    while 10 <= rest {
-        at -= 1;
-        out[at] = digit_byte(rest % 10);
-        rest = rest / 10;
-    }
-    at -= 1;
-    out[at] = digit_byte(rest);
-    at
-}
-
-// Writes a number without its sign up to the end of `out`; answers where it starts.
-fn decimal(out: &mut [u8], decimals: usize, value: u64) -> usize
-    requires { ⌜ length (decimalOf decimals value) ≤ length (now out) ⌝ }
-    ensures { λ r. ⌜ r + length (decimalOf decimals value) ≡ length (now (out .entry)) ⌝ }
-    ensures { λ r. ⌜ now (out .exit) ≡ take r (now (out .entry)) ++ decimalOf decimals value ⌝ }
-{
-    let end = out.len();
-    if decimals < 1 {
-        return all_digits(out, end, value);
-    }
-    let whole = last_digits(out, end, decimals, value);
-    let at = end - decimals - 1;
-    out[at] = POINT;
-    all_digits(out, at, whole)
-}
-
-fn integer_of(places: LastPlaces) -> Integer
-    ensures { λ r. ⌜ r .0 ≡ places .0 ⌝ }
-{
-    Integer(places.0)
-}
-
-fn size_of(places: LastPlaces) -> u64
+// How far from zero a number is.
+pub fn size_of_number(places: LastPlaces) -> u64
     ensures { λ r. ⌜ r ≡ natAbs (places .0) ⌝ }
 {
-    magnitude(integer_of(places))
+    magnitude(Integer(places.0))
 }
 
-fn is_below_zero(places: LastPlaces) -> bool
+pub fn is_below_zero(places: LastPlaces) -> bool
     ensures { λ r. ⌜ r ≡ not (nonNeg (places .0)) ⌝ }
 {
-    is_negative(integer_of(places))
+    places.0 < 0
 }
 
-// Writes a number up to the end of `out`, a minus before it if it is below zero.
-fn number(out: &mut [u8], decimals: u8, places: LastPlaces)
-    requires { ⌜ widthOf decimals (places .0) ≤ length (now out) ⌝ }
-    ensures { λ r. ⌜ now (out .exit) ≡ take (length (now (out .entry)) - widthOf decimals (places .0)) (now (out .entry)) ++ numberText decimals (places .0) ⌝ }
-{
-    let size = size_of(places);
-    let start = decimal(out, decimals as usize, size);
-    if is_below_zero(places) {
-        out[start - 1] = MINUS;
-    }
-}
-
-// How many digits ten characters hold beside the point and the minus.
-fn digit_room(decimals: u8, negative: bool) -> usize
-    ensures { λ r. ⌜ r ≡ 10 - cond (ltb decimals 1) 0 1 - cond negative 1 0 ⌝ }
+// What the size of a number stays below in ten characters: they hold ten digits, and one less for a point and for a minus.
+fn size_limit(decimals: u8, negative: bool) -> u64
+    ensures { λ r. ⌜ r ≡ 10 ^ (10 - cond (ltb decimals 1) 0 1 - cond negative 1 0) ⌝ }
 {
     if decimals < 1 {
         if negative {
-            return 9;
+            return 1_000_000_000;
         }
-        return 10;
+        return 10_000_000_000;
     }
     if negative {
-        return 8;
+        return 100_000_000;
     }
-    9
+    1_000_000_000
 }
 
 // Whether a number has 0 to 6 decimals and is written in ten characters.
@@ -142,18 +46,5 @@ pub fn fits(decimals: u8, places: LastPlaces) -> bool
     if 6 < decimals {
         return false;
     }
-    let room = digit_room(decimals, is_below_zero(places));
-    size_of(places) < power_of_ten(room)
-}
-
-// The ten characters of a number, or ten spaces where it does not fit.
-pub fn field_of(decimals: u8, places: LastPlaces) -> Field
-    ensures { λ r. ⌜ r ≡ fieldIf (fitsField decimals (places .0)) decimals (places .0) ⌝ }
-{
-    let mut cells = [SPACE; 10];
-    if fits(decimals, places) {
-        number(&mut cells, decimals, places);
-        return Field { fits: true, cells };
-    }
-    Field { fits: false, cells }
+    size_of_number(places) < size_limit(decimals, is_below_zero(places))
 }

@@ -1,8 +1,8 @@
-// Signed integers, one machine operation a function, so that every caller sees plain integers.
+// Signed integers: the machine's operations in functions of their own, so that every caller sees plain integers.
 ghost use mathlib.Core.Path.{_≡_};
-ghost use mathlib.Core.Bool.{true, not};
-ghost use Prim.Native.Nat.{_<_, _≤_};
-ghost use lib.IntN.{pos, negsuc, natAbs, negℤ, _+ℤ_, _*ℤ_};
+ghost use mathlib.Core.Bool.{not};
+ghost use Prim.Native.Nat.{_<_};
+ghost use lib.IntN.{pos, natAbs, _+ℤ_, _*ℤ_};
 ghost use lib.Signed.{nonNeg, quotZ, remZ};
 ghost use mir.Syntax.{w64};
 ghost use mir.Val.{SFits};
@@ -50,20 +50,6 @@ pub fn of_natural(n: u64) -> Integer
     Integer(n as i64)
 }
 
-pub fn negate(x: Integer) -> Integer
-    requires { ⌜ SFits w64 (negℤ (x .0)) ⌝ }
-    ensures { λ r. ⌜ r .0 ≡ negℤ (x .0) ⌝ }
-{
-    Integer(-x.0)
-}
-
-fn to_natural(x: Integer) -> u64
-    requires { ⌜ nonNeg (x .0) ≡ true ⌝ }
-    ensures { λ r. ⌜ r ≡ natAbs (x .0) ⌝ }
-{
-    x.0 as u64
-}
-
 pub fn is_negative(x: Integer) -> bool
     ensures { λ r. ⌜ r ≡ not (nonNeg (x .0)) ⌝ }
 {
@@ -74,8 +60,9 @@ pub fn is_negative(x: Integer) -> bool
 pub fn magnitude(x: Integer) -> u64
     ensures { λ r. ⌜ r ≡ natAbs (x .0) ⌝ }
 {
-    if is_negative(x) {
-        return to_natural(negate(plus(x, Integer(1)))) + 1;
+    let n = x.0;
+    if n < 0 {
+        return -(n + 1) as u64 + 1;
     }
-    to_natural(x)
+    n as u64
 }

@@ -1,6 +1,6 @@
 // The printed number of a net weight.
 ghost use mathlib.Core.Path.{_≡_};
-ghost use Rattle.weight.specs.Printing.{printedNumber, unprintedNumber, fitsBelowZero};
+ghost use Rattle.weight.specs.Printing.{printedNumber, fitsBelowZero};
 use crate::field::fits;
 use crate::rounding::LastPlaces;
 use crate::rounding::Micrograms;
@@ -25,29 +25,19 @@ const NET_LIMIT: u64 = 5_000_000_000;
 // Twice 10^8: beside a minus and a point ten characters hold eight digits.
 const TWICE_PLACES_LIMIT: u64 = 200_000_000;
 
-fn unprinted() -> Printed
-    ensures { λ r. ⌜ r ≡ unprintedNumber ⌝ }
+pub fn printed_number(resolution: Resolution, net: Micrograms) -> Printed
+    ensures { λ r. ⌜ r ≡ printedNumber resolution (net .0) ⌝ }
 {
+    if is_allowed(resolution) & (size_of(net) <= NET_LIMIT) {
+        let places = places_of(resolution, steps_of(resolution, net));
+        if fits(resolution.decimals, places) {
+            return Printed { fits: true, places };
+        }
+    }
     Printed {
         fits: false,
         places: LastPlaces(0),
     }
-}
-
-pub fn printed_number(resolution: Resolution, net: Micrograms) -> Printed
-    ensures { λ r. ⌜ r ≡ printedNumber resolution (net .0) ⌝ }
-{
-    if !is_allowed(resolution) {
-        return unprinted();
-    }
-    if NET_LIMIT < size_of(net) {
-        return unprinted();
-    }
-    let places = places_of(resolution, steps_of(resolution, net));
-    if fits(resolution.decimals, places) {
-        return Printed { fits: true, places };
-    }
-    unprinted()
 }
 
 // Whether a net of `size` micrograms below zero fits ten characters. Its number is below 10^8 exactly when its exact steps and half

@@ -14,7 +14,6 @@ use crate::integer::magnitude;
 use crate::integer::of_natural;
 use crate::integer::plus;
 use crate::integer::times;
-use crate::power::power_of_ten;
 use crate::units::WeightUnit;
 use crate::units::nanograms_of;
 
@@ -59,12 +58,21 @@ pub fn divisor_of(resolution: Resolution) -> u64
     resolution.step as u64 * nanograms_of(unit).0
 }
 
-// The nanograms of a microgram, times 10^d: what a rounding multiplies by.
+// The nanograms of a microgram, times 10^d: what a rounding multiplies by. A match, and no table: a constant array is built anew at
+// every use.
 pub fn scale_of(decimals: u8) -> u64
     requires { ⌜ decimals ≤ 6 ⌝ }
     ensures { λ r. ⌜ r ≡ 1000 * 10 ^ decimals ⌝ }
 {
-    1000 * power_of_ten(decimals as usize)
+    match decimals {
+        0 => 1_000,
+        1 => 10_000,
+        2 => 100_000,
+        3 => 1_000_000,
+        4 => 10_000_000,
+        5 => 100_000_000,
+        _ => 1_000_000_000,
+    }
 }
 
 // Whether decimals and step are those of document 01, and the step is at least one microgram.
@@ -79,36 +87,11 @@ pub fn is_allowed(resolution: Resolution) -> bool
     known & (scale_of(resolution.decimals) <= divisor_of(resolution))
 }
 
-// The only conversions between the counts.
-fn micrograms_in(net: Micrograms) -> Integer
-    ensures { λ r. ⌜ r .0 ≡ net .0 ⌝ }
-{
-    Integer(net.0)
-}
-
 // How far from zero an amount is.
 pub fn size_of(amount: Micrograms) -> u64
     ensures { λ r. ⌜ r ≡ natAbs (amount .0) ⌝ }
 {
-    magnitude(micrograms_in(amount))
-}
-
-fn display_steps(count: Integer) -> DisplaySteps
-    ensures { λ r. ⌜ r .0 ≡ count .0 ⌝ }
-{
-    DisplaySteps(count.0)
-}
-
-fn steps_in(steps: DisplaySteps) -> Integer
-    ensures { λ r. ⌜ r .0 ≡ steps .0 ⌝ }
-{
-    Integer(steps.0)
-}
-
-fn last_places(count: Integer) -> LastPlaces
-    ensures { λ r. ⌜ r .0 ≡ count .0 ⌝ }
-{
-    LastPlaces(count.0)
+    magnitude(Integer(amount.0))
 }
 
 // One rounding from the exact net.
@@ -118,7 +101,8 @@ pub fn steps_of(resolution: Resolution, net: Micrograms) -> DisplaySteps
     ensures { λ r. ⌜ r .0 ≡ stepsOf resolution (net .0) ⌝ }
 {
     let scale = of_natural(scale_of(resolution.decimals));
-    display_steps(nearest(times(micrograms_in(net), scale), divisor_of(resolution)))
+    let steps = nearest(times(Integer(net.0), scale), divisor_of(resolution));
+    DisplaySteps(steps.0)
 }
 
 pub fn places_of(resolution: Resolution, steps: DisplaySteps) -> LastPlaces
@@ -126,5 +110,6 @@ pub fn places_of(resolution: Resolution, steps: DisplaySteps) -> LastPlaces
     ensures { λ r. ⌜ r .0 ≡ steps .0 *ℤ pos (resolution .step) ⌝ }
 {
     let step = of_natural(resolution.step as u64);
-    last_places(times(steps_in(steps), step))
+    let places = times(Integer(steps.0), step);
+    LastPlaces(places.0)
 }

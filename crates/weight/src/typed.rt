@@ -1,9 +1,8 @@
-// Numbers that a user types, as TA takes them.
+// The amounts of numbers that a user types, as TA takes them.
 ghost use mathlib.Core.Path.{_≡_};
-ghost use Prim.Native.Nat.{_^_, _≤_, _<_};
+ghost use Prim.Native.Nat.{_^_, _<_};
 ghost use Rattle.weight.specs.Rounding.{halfUp};
-ghost use Rattle.weight.specs.Typed.{MostPlaces, typedMicrograms, amountOf, readTyped};
-use crate::reading::read_decimal;
+ghost use Rattle.weight.specs.Typed.{MostPlaces, typedAmount};
 use crate::rounding::scale_of;
 use crate::units::WeightUnit;
 use crate::units::nanograms_of;
@@ -11,7 +10,7 @@ use crate::units::nanograms_of;
 // A tare, in micrograms: it is never below zero.
 pub struct Tare(pub u32);
 
-// What a typed text is read as.
+// What a typed number is taken as.
 pub enum Typed {
     Amount(Tare),
     // Above the largest capacity of any profile.
@@ -20,8 +19,6 @@ pub enum Typed {
 }
 
 const LARGEST_CAPACITY: u64 = 1_000_000_000;
-
-const LONGEST_TYPED: usize = 10;
 
 // (2^63 - 1) / nanograms: no number up to it makes a product that leaves a signed word, and all above it are too large.
 fn most_places(unit: WeightUnit) -> u64
@@ -53,10 +50,13 @@ fn half_up(value: u64, by: u64) -> u64
     quotient
 }
 
-fn amount(unit: WeightUnit, decimals: u8, value: u64) -> Typed
-    requires { ⌜ decimals ≤ 6 ⌝ }
-    ensures { λ r. ⌜ r ≡ amountOf (typedMicrograms unit decimals value) ⌝ }
+// `value` last places with `decimals` decimals as an amount.
+pub fn typed_amount(unit: WeightUnit, decimals: u8, value: u64) -> Typed
+    ensures { λ r. ⌜ r ≡ typedAmount unit decimals value ⌝ }
 {
+    if 6 < decimals {
+        return Typed::NotTyped;
+    }
     if most_places(unit) < value {
         return Typed::TooLarge;
     }
@@ -66,17 +66,4 @@ fn amount(unit: WeightUnit, decimals: u8, value: u64) -> Typed
         return Typed::TooLarge;
     }
     Typed::Amount(Tare(rounded as u32))
-}
-
-pub fn read_typed(unit: WeightUnit, text: &[u8]) -> Typed
-    ensures { λ r. ⌜ r ≡ readTyped unit (now (text .entry)) ⌝ }
-{
-    if LONGEST_TYPED < text.len() {
-        return Typed::NotTyped;
-    }
-    let number = read_decimal(text);
-    if number.good {
-        return amount(unit, number.decimals, number.value);
-    }
-    Typed::NotTyped
 }

@@ -1,8 +1,6 @@
-// The seven units of document 01, in its order: nanograms and text.
+// The seven units of document 01, in its order.
 ghost use mathlib.Core.Path.{_≡_};
-ghost use Rattle.weight.specs.Units.{nanogramsOf, unitText, unitCells, unitNamed};
-ghost use Rattle.weight.specs.Ascii.{sameText};
-use crate::text::same_text;
+ghost use Rattle.weight.specs.Units.{nanogramsOf};
 
 // Gram, milligram, carat, ounce, troy ounce, grain, pennyweight.
 pub enum WeightUnit {
@@ -18,99 +16,17 @@ pub enum WeightUnit {
 // The nanograms of one unit.
 pub struct Nanograms(pub u64);
 
-// A unit's text: the first `len` cells, spaces after them.
-pub struct UnitText {
-    pub cells: [u8; 3],
-    pub len: usize,
-}
-
-// What a text is read as.
-pub enum UnitRead {
-    Named(WeightUnit),
-    Unknown,
-}
-
 pub fn nanograms_of(unit: WeightUnit) -> Nanograms
     ensures { λ r. ⌜ r .0 ≡ nanogramsOf unit ⌝ }
 {
-    match unit {
-        WeightUnit::G => Nanograms(1_000_000_000),
-        WeightUnit::Mg => Nanograms(1_000_000),
-        WeightUnit::Ct => Nanograms(200_000_000),
-        WeightUnit::Oz => Nanograms(28_349_523_125),
-        WeightUnit::Ozt => Nanograms(31_103_476_800),
-        WeightUnit::Gn => Nanograms(64_798_910),
-        WeightUnit::Dwt => Nanograms(1_555_173_840),
-    }
-}
-
-pub fn unit_text(unit: WeightUnit) -> UnitText
-    ensures { λ r. ⌜ r ≡ unitCells unit ⌝ }
-{
-    match unit {
-        WeightUnit::G => UnitText {
-            cells: *b"g  ",
-            len: 1,
-        },
-        WeightUnit::Mg => UnitText {
-            cells: *b"mg ",
-            len: 2,
-        },
-        WeightUnit::Ct => UnitText {
-            cells: *b"ct ",
-            len: 2,
-        },
-        WeightUnit::Oz => UnitText {
-            cells: *b"oz ",
-            len: 2,
-        },
-        WeightUnit::Ozt => UnitText {
-            cells: *b"ozt",
-            len: 3,
-        },
-        WeightUnit::Gn => UnitText {
-            cells: *b"GN ",
-            len: 2,
-        },
-        WeightUnit::Dwt => UnitText {
-            cells: *b"dwt",
-            len: 3,
-        },
-    }
-}
-
-// In document 01's order.
-const UNITS: [WeightUnit; 7] = [
-    WeightUnit::G,
-    WeightUnit::Mg,
-    WeightUnit::Ct,
-    WeightUnit::Oz,
-    WeightUnit::Ozt,
-    WeightUnit::Gn,
-    WeightUnit::Dwt,
-];
-
-// Whether a text is the unit's.
-pub fn is_unit(text: &[u8], unit: WeightUnit) -> bool
-    ensures { λ r. ⌜ r ≡ sameText (now (text .entry)) (unitText unit) ⌝ }
-{
-    let written = unit_text(unit);
-    let cells = written.cells;
-    let len = written.len;
-    same_text(text, &cells[..len])
-}
-
-pub fn read_unit(text: &[u8]) -> UnitRead
-    ensures { λ r. ⌜ r ≡ unitNamed (now (text .entry)) ⌝ }
-{
-    let units = UNITS;
-    let mut i = 0;
-    while i < 7 {
-        let unit = units[i];
-        if is_unit(text, unit) {
-            return UnitRead::Named(unit);
-        }
-        i += 1;
-    }
-    UnitRead::Unknown
+    let count: u64 = match unit {
+        WeightUnit::G => 1_000_000_000,
+        WeightUnit::Mg => 1_000_000,
+        WeightUnit::Ct => 200_000_000,
+        WeightUnit::Oz => 28_349_523_125,
+        WeightUnit::Ozt => 31_103_476_800,
+        WeightUnit::Gn => 64_798_910,
+        WeightUnit::Dwt => 1_555_173_840,
+    };
+    Nanograms(count)
 }

@@ -2,7 +2,7 @@
 use crate::show;
 use crate::texts;
 use crate::texts::Kind;
-use weight::FieldRead;
+use text::FieldRead;
 use weight::LastPlaces;
 
 // The decimals and the last places.
@@ -17,10 +17,10 @@ fn found(r: FieldRead) {
 }
 
 fn there_and_back(decimals: u8, places: i64) {
-    let f = weight::field_of(decimals, LastPlaces(places));
+    let f = text::field_of(decimals, LastPlaces(places));
     show::field(f);
     let cells = f.cells;
-    found(weight::read_field(&cells));
+    found(text::read_field(&cells));
 }
 
 fn written(decimals: u8, size: u64) {
@@ -35,7 +35,7 @@ fn written(decimals: u8, size: u64) {
 pub fn read(text: &[u8]) {
     show::text(b"read");
     show::quoted(text);
-    found(weight::read_field(text));
+    found(text::read_field(text));
     show::end();
 }
 

@@ -8,7 +8,7 @@ fn printed(r: Resolution, net: i64) {
     let p = weight::printed_number(r, Micrograms(net));
     let places = p.places;
     if p.fits {
-        show::field(weight::field_of(r.decimals, places));
+        show::field(text::field_of(r.decimals, places));
     } else {
         show::text(b" no");
     }

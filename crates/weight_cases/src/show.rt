@@ -1,5 +1,5 @@
 // What a line is made of, each part but the first word with a space before it; and numbers of either sign from their size.
-use weight::Field;
+use text::Field;
 use weight::LastPlaces;
 use weight::Resolution;
 use weight::WeightUnit;
@@ -21,7 +21,7 @@ pub fn number(n: u64) {
 }
 
 pub fn unit(u: WeightUnit) {
-    let t = weight::unit_text(u);
+    let t = text::unit_text(u);
     let cells = t.cells;
     text(b" ");
     text(&cells);
@@ -40,7 +40,7 @@ pub fn field(f: Field) {
 
 // A number of at most ten characters, as a field with no decimals.
 pub fn whole(n: i64) {
-    field(weight::field_of(0, LastPlaces(n)));
+    field(text::field_of(0, LastPlaces(n)));
 }
 
 pub fn resolution(r: Resolution) {

@@ -9,7 +9,7 @@ pub fn typed(unit: WeightUnit, text: &[u8]) {
     show::text(b"typed");
     show::unit(unit);
     show::quoted(text);
-    let found = weight::read_typed(unit, text);
+    let found = text::read_typed(unit, text);
     match found {
         Typed::Amount(m) => show::whole(m.0 as i64),
         Typed::TooLarge => show::text(b" too large"),

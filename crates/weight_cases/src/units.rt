@@ -2,11 +2,11 @@
 use crate::show;
 use crate::texts;
 use crate::texts::Kind;
-use weight::UnitRead;
+use text::UnitRead;
 use weight::WeightUnit;
 
 fn unit(u: WeightUnit) {
-    let t = weight::unit_text(u);
+    let t = text::unit_text(u);
     let n = weight::nanograms_of(u);
     show::text(b"unit");
     show::unit(u);
@@ -17,7 +17,7 @@ fn unit(u: WeightUnit) {
 
 pub fn named(text: &[u8]) {
     show::text(b"named");
-    let found = weight::read_unit(text);
+    let found = text::read_unit(text);
     match found {
         UnitRead::Named(u) => show::unit(u),
         UnitRead::Unknown => show::text(b" no "),

@@ -1,7 +1,7 @@
 -- `answer::emit::put_number` meets its contract.
 -- Assumes nothing.
 use mathlib.Core.List.{[], _∷_}
-use Rattle.weight.specs.Units.{unitText}
+use Rattle.text.specs.Units.{unitText}
 use Rattle.answer.specs.Lines.{weightText}
 use Rattle.answer.proofs.Laying.{laid-3, room-1-of-3, room-2-of-3, room-3-of-3}
 use Rattle.answer.proofs.Lines.{number-pieces}

@@ -1,7 +1,7 @@
 -- `answer::emit::put_text` meets its contract.
 -- Assumes nothing.
 use mathlib.Core.List.{[], _∷_, _++_}
-use Rattle.weight.specs.Ascii.{ascii}
+use Rattle.text.specs.Ascii.{ascii}
 use Rattle.answer.specs.Commands.{nameOf}
 use Rattle.answer.specs.Lines.{lineEnd, quoted}
 use Rattle.answer.proofs.Laying.{laid-4, room-1-of-4, room-2-of-4, room-3-of-4, room-4-of-4}

@@ -2,7 +2,7 @@
 -- Assumes nothing.
 use mathlib.Core.Path.{refl}
 use mathlib.Core.List.{[], _∷_, _++_}
-use Rattle.weight.specs.Ascii.{ascii}
+use Rattle.text.specs.Ascii.{ascii}
 use Rattle.answer.specs.Lines.{lineEnd, headText, weightText}
 use Rattle.answer.proofs.Laying.{laid-4, room-1-of-4, room-2-of-4, room-3-of-4, room-4-of-4}
 use borrow.Author.Needs.{needs}

@@ -3,7 +3,7 @@
 use borrow.Author.Needs.{needs}
 use Rattle.host.proofs.scan.name_length.Statement.{statement}
 use Rattle.host.proofs.scan.name_length.Tie as tie
-use Rattle.weight.proofs.Searching.{first-length}
+use Rattle.text.proofs.Searching.{first-length}
 
 first-at-requires : tie.Need-first-at-requires
 first-at-requires c κs = search needs

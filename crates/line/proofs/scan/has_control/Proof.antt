@@ -5,7 +5,7 @@ use borrow.Author.Needs.{needs}
 use lib.ListN.{length}
 use Rattle.line.specs.Judging.{hasControl}
 use Rattle.line.proofs.Scanning.{control-here, control-not-here, control-nowhere}
-use Rattle.weight.proofs.Searching.{LeftAt, all-left}
+use Rattle.text.proofs.Searching.{LeftAt, all-left}
 use Rattle.line.proofs.scan.has_control.Statement.{statement}
 use Rattle.line.proofs.scan.has_control.Tie as tie
 

@@ -5,7 +5,7 @@ use borrow.Author.Needs.{needs}
 use lib.ListN.{length}
 use Rattle.line.specs.Judging.{isPrintable}
 use Rattle.line.proofs.Scanning.{below-printable, quote-unprintable, printable-here, all-printable}
-use Rattle.weight.proofs.Searching.{LeftAt, all-left}
+use Rattle.text.proofs.Searching.{LeftAt, all-left}
 use Rattle.line.proofs.scan.is_printable.Statement.{statement}
 use Rattle.line.proofs.scan.is_printable.Tie as tie
 

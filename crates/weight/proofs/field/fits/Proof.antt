@@ -18,24 +18,21 @@ too-many : (d : ℕ) (n : ℤ) → 6 < d → false ≡ fitsField d n
 too-many d n h = rw (fits-limit d n, lt-leb d 6 h)
 
 -- and else the size is below the power of ten
-below-power : (d : ℕ) (n : ℤ) (t : Bool) (r m p : ℕ) → d ≤ 6 → t ≡ not (nonNeg n)
-    → r ≡ 10 - cond (ltb d 1) 0 1 - cond t 1 0 → m ≡ natAbs n → p ≡ 10 ^ r → ltb m p ≡ fitsField d n
-below-power d n t r m p h f g i j = rw (j, i, g, f, fits-limit d n, le-leb d 6 h)
+below-power : (d : ℕ) (n : ℤ) (t : Bool) (m p : ℕ) → d ≤ 6 → t ≡ not (nonNeg n)
+    → m ≡ natAbs n → p ≡ 10 ^ (10 - cond (ltb d 1) 0 1 - cond t 1 0) → ltb m p ≡ fitsField d n
+below-power d n t m p h f i j = rw (j, i, f, fits-limit d n, le-leb d 6 h)
 
 returns : tie.Need-returns
 returns c = search (needs, too-many)
 
+size-of-number-requires : tie.Need-size-of-number-requires
+size-of-number-requires c κs = search needs
+
 is-below-zero-requires : tie.Need-is-below-zero-requires
 is-below-zero-requires c κs = search needs
 
-digit-room-requires : tie.Need-digit-room-requires
-digit-room-requires c κs = search needs
-
-size-of-requires : tie.Need-size-of-requires
-size-of-requires c κs = search needs
-
-power-of-ten-requires : tie.Need-power-of-ten-requires
-power-of-ten-requires c κs = search needs
+size-limit-requires : tie.Need-size-limit-requires
+size-limit-requires c κs = search needs
 
 returns-2 : tie.Need-returns-2
 returns-2 c = search (needs, below-power)
@@ -45,8 +42,7 @@ fits-spec =
     tie.close
     (tie.spec
     returns
+    size-of-number-requires
     is-below-zero-requires
-    digit-room-requires
-    size-of-requires
-    power-of-ten-requires
+    size-limit-requires
     returns-2)

@@ -1,6 +1,9 @@
 -- `weight::rounding::places_of` meets its contract.
 -- Assumes nothing.
 use borrow.Author.Needs.{needs}
+use mir.Facts.{toZ-ofZ}
+use mir.Syntax.{w64}
+use mir.Val.{SFits}
 use Rattle.weight.proofs.rounding.places_of.Statement.{statement}
 use Rattle.weight.proofs.rounding.places_of.Tie as tie
 
@@ -10,26 +13,17 @@ cast-of-natural c = search needs
 of-natural-requires : tie.Need-of-natural-requires
 of-natural-requires c κs = search needs
 
-steps-in-requires : tie.Need-steps-in-requires
-steps-in-requires c κs = search needs
-
 times-requires : tie.Need-times-requires
-times-requires c κs = rw (c .steps-in .ensures, c .before .of-natural .ensures) (c .before .before .before .pre)
-
-last-places-requires : tie.Need-last-places-requires
-last-places-requires c κs = search needs
+times-requires c κs =
+    let start = c .before .before .before in
+    let known : SFits w64 (start .args .steps .0) = search needs in
+    rw (toZ-ofZ known, c .before .of-natural .ensures) (start .pre)
 
 returns : tie.Need-returns
 returns c =
-    rw (c .last-places .ensures, c .before .times .ensures, c .before .before .steps-in .ensures, c .before .before .before .of-natural .ensures)
+    let start = c .before .before .before .before .before in
+    let known : SFits w64 (start .args .steps .0) = search needs in
+    rw (c .before .times .ensures, toZ-ofZ known, c .before .before .before .of-natural .ensures) (toZ-ofZ (start .pre))
 
 pub places-of-spec : {M : Type 1} → statement M
-places-of-spec =
-    tie.close
-    (tie.spec
-    cast-of-natural
-    of-natural-requires
-    steps-in-requires
-    times-requires
-    last-places-requires
-    returns)
+places-of-spec = tie.close (tie.spec cast-of-natural of-natural-requires times-requires returns)

@@ -7,6 +7,9 @@ use native.Mathlib.Omega.{arith}
 use borrow.Author.Needs.{needs}
 use lib.Dec.{lit<}
 use lib.IntN.{pos, _*ℤ_}
+use mir.Facts.{toZ-ofZ}
+use mir.Syntax.{w64}
+use mir.Val.{SFits, toZ, ofZ}
 use Rattle.weight.specs.Rounding.{stepsOf}
 use Rattle.weight.proofs.Allowed.{allowed-decimals, allowed-divisor-positive, allowed-divisor-limit}
 use Rattle.weight.proofs.Range.{scale-limit, scaled-small, scaled-fits}
@@ -22,19 +25,18 @@ of-natural-requires c κs =
     rw (c .scale-of .ensures)
     (record { sfits = omega (arith, scale-limit (start .args .resolution .decimals) (allowed-decimals (start .args .resolution) (start .pre .0))) })
 
-micrograms-in-requires : tie.Need-micrograms-in-requires
-micrograms-in-requires c κs = search needs
-
 -- the product is the scaled net
-scaled-at : (c : tie.After-micrograms-in) →
-    let start = c .before .before .before in
-    c .micrograms-in .result .0 *ℤ c .before .of-natural .result .0 ≡ start .args .net .0 *ℤ pos (1000 * 10 ^ (start .args .resolution .decimals))
-scaled-at c = rw (c .micrograms-in .ensures, c .before .of-natural .ensures, c .before .before .scale-of .ensures)
+scaled-at : (c : tie.After-of-natural) →
+    let start = c .before .before in
+    toZ w64 (ofZ w64 (start .args .net .0)) *ℤ c .of-natural .result .0 ≡ start .args .net .0 *ℤ pos (1000 * 10 ^ (start .args .resolution .decimals))
+scaled-at c =
+    let known : SFits w64 (c .before .before .args .net .0) = search needs in
+    rw (toZ-ofZ known, c .of-natural .ensures, c .before .scale-of .ensures)
 
 times-requires : tie.Need-times-requires
 times-requires c κs =
     let start = c .before .before .before in
-    rw (scaled-at c) (scaled-fits (start .args .resolution) (start .args .net .0) (start .pre .0) (start .pre .1))
+    rw (scaled-at (c .before)) (scaled-fits (start .args .resolution) (start .args .net .0) (start .pre .0) (start .pre .1))
 
 divisor-of-requires : tie.Need-divisor-of-requires
 divisor-of-requires c κs = search needs
@@ -44,18 +46,16 @@ nearest-requires c κs =
     let start = c .before .before .before .before .before in
     let resolution = start .args .resolution in
     let allowed = start .pre .0 in
-    rw (c .divisor-of .ensures, c .before .times .ensures, scaled-at (c .before .before)) (
+    rw (c .divisor-of .ensures, c .before .times .ensures, scaled-at (c .before .before .before)) (
       allowed-divisor-positive resolution allowed,
       (lt-of-le-of-lt (allowed-divisor-limit resolution allowed) (lit< tt), scaled-small resolution (start .args .net .0) allowed (start .pre .1)),
     )
 
-display-steps-requires : tie.Need-display-steps-requires
-display-steps-requires c κs = search needs
-
 returns : tie.Need-returns
 unfolding stepsOf
 returns c =
-    rw (c .display-steps .ensures, c .before .nearest .ensures, c .before .before .divisor-of .ensures, c .before .before .before .times .ensures, scaled-at (c .before .before .before .before))
+    let known : SFits w64 (c .before .nearest .result .0) = search needs in
+    rw (toZ-ofZ known, c .before .nearest .ensures, c .before .before .divisor-of .ensures, c .before .before .before .times .ensures, scaled-at (c .before .before .before .before .before))
 
 pub steps-of-spec : {M : Type 1} → statement M
 steps-of-spec =
@@ -63,9 +63,7 @@ steps-of-spec =
     (tie.spec
     scale-of-requires
     of-natural-requires
-    micrograms-in-requires
     times-requires
     divisor-of-requires
     nearest-requires
-    display-steps-requires
     returns)

@@ -1,0 +1,130 @@
+-- What is read of a field: the minus, the zeros that lead, the sign and the whole.
+-- Assumes nothing.
+use mathlib.Core.Path.{_≡_, refl, _∙_, sym, ap, subst}
+use mathlib.Core.Bool.{Bool, true, false, cond, not, _&&_, _||_, or-true, or-false}
+use mathlib.Core.List.{List, [], _∷_}
+use Prim.Native.Nat.{ℕ, _-_, _≤_, _<_}
+use native.Mathlib.Omega.{arith}
+use lib.Dec.{eqb, ltb}
+use lib.IntN.{ℤ, pos, _-ℤ_}
+use lib.ListN.{length, getD, take, drop, length-drop}
+use mir.Syntax.{w64}
+use mir.Val.{SFits, toZ, ofZ}
+use mir.Facts.{toZ-pos}
+use borrow.Author.Tests.{eq-eqb, ne-eqb, eqb-true, lt-leb}
+use Rattle.text.specs.declared.reading.FieldRead.{FieldRead}
+use Rattle.text.specs.declared.reading.FieldRead.the-variants.{Number, NoNumber}
+use Rattle.weight.specs.declared.rounding.LastPlaces.{LastPlaces}
+use Rattle.weight.specs.Ascii.{minus, point}
+use Rattle.text.specs.Decimals.{ReadsDecimal, MinusAt}
+use Rattle.text.specs.Reading.{beforePoint, hasMinus, afterMinus, noLeadingZero, signed, isDecimal, valueIn, decimalsIn, isWritten, readNumber, readField, afterSpaces}
+use Rattle.text.proofs.DecimalText.{both}
+use Rattle.weight.proofs.Machine.{opposite-asks, opposite-gives}
+use Rattle.text.proofs.Searching.{rest-is}
+
+-- ---- the first byte
+
+-- an empty text, a minus and any other byte
+pub nothing-first : (t : List ℕ) → length t < 1 → MinusAt t 0
+nothing-first [] h = record { in-text = omega arith; after = refl; has = refl }
+nothing-first (c ∷ t) h = absurd (omega arith)
+
+pub minus-first : (t : List ℕ) → 1 ≤ length t → getD t 0 0 ≡ minus → MinusAt t 1
+minus-first [] h e = absurd (omega arith)
+minus-first (c ∷ t) h e = let m = eq-eqb c minus e in record { in-text = omega arith; after = rw m; has = rw m }
+
+pub other-first : (t : List ℕ) → 1 ≤ length t → (getD t 0 0 ≡ minus → ⊥) → MinusAt t 0
+other-first [] h e = absurd (omega arith)
+other-first (c ∷ t) h n = let m = ne-eqb c minus n in record { in-text = omega arith; after = rw m; has = rw m }
+
+-- ---- the zeros that lead
+
+-- no text of one byte has one
+pub one-byte : (t : List ℕ) → length t < 2 → true ≡ noLeadingZero (beforePoint t)
+one-byte [] h = refl
+one-byte (c ∷ []) h = by (eqb c point)
+  where
+    by : (b : Bool) → true ≡ noLeadingZero (cond b [] (c ∷ []))
+    by true = refl
+    by false = refl
+one-byte (c ∷ d ∷ t) h = absurd (omega arith)
+
+-- in a longer one the first byte leads, unless the point follows it
+pub two-bytes : (t : List ℕ) → 2 ≤ length t → not (eqb (getD t 0 0) 48) || eqb (getD t 1 0) point ≡ noLeadingZero (beforePoint t)
+two-bytes [] h = absurd (omega arith)
+two-bytes (c ∷ []) h = absurd (omega arith)
+two-bytes (c ∷ d ∷ t) h = by (eqb c point) (eqb d point) refl
+  where
+    by : (b e : Bool) → eqb c point ≡ b → not (eqb c 48) || e ≡ noLeadingZero (cond b [] (c ∷ cond e [] (d ∷ beforePoint t)))
+    by true e p = rw (eqb-true c point p)
+    by false true p = or-true (not (eqb c 48))
+    by false false p = or-false (not (eqb c 48)) ∙ rw (lt-leb (length (c ∷ d ∷ beforePoint t)) 1 (omega arith))
+
+-- ---- the sign
+
+-- ten digits fit a signed word, below zero and not
+module _ (b : Bool) (m : ℕ) (h : m < 10_000_000_000) where
+  pub minus-fits : SFits w64 (pos 0 -ℤ toZ w64 m)
+  minus-fits = opposite-asks m (omega arith)
+
+  pub below-places : b ≡ true → toZ w64 (ofZ w64 (pos 0 -ℤ toZ w64 m)) ≡ signed b m
+  below-places e = rw e (opposite-gives m (omega arith))
+
+  pub other-places : b ≡ false → toZ w64 m ≡ signed b m
+  other-places e = rw e (toZ-pos w64 (omega arith))
+
+-- ---- the whole number
+
+-- what follows the first i bytes is no longer than the text
+pub rest-short : (t : List ℕ) (i : ℕ) → length t ≤ 10 → length (take (length t - i) (drop i t)) ≤ 10
+rest-short t i h = rw (rest-is i t, length-drop i t) (omega arith)
+
+module _ (t : List ℕ) (i : ℕ) (m : MinusAt t i) (good shortest : Bool) (d v : ℕ)
+    (r : ReadsDecimal (take (length t - i) (drop i t)) good d v)
+    (s : shortest ≡ noLeadingZero (beforePoint (take (length t - i) (drop i t)))) where
+  digits : take (length t - i) (drop i t) ≡ afterMinus t
+  digits = rest-is i t ∙ m .after
+
+  decimal : ReadsDecimal (afterMinus t) good d v
+  decimal = subst (λ (l : List ℕ). ReadsDecimal l good d v) digits r
+
+  -- the code's test is the definition's
+  written : good && shortest && not (ltb 0 i && eqb v 0) ≡ isWritten t
+  unfolding isWritten
+  written = rw (decimal .is, s, digits, m .has) (go (isDecimal (afterMinus t)) refl)
+    where
+      go : (b : Bool)
+          → isDecimal (afterMinus t) ≡ b
+          → b && noLeadingZero (beforePoint (afterMinus t)) && not (hasMinus t && eqb v 0)
+          ≡ b && noLeadingZero (beforePoint (afterMinus t)) && not (hasMinus t && eqb (valueIn (afterMinus t)) 0)
+      go true e = rw (decimal .number, e)
+      go false e = refl
+
+  -- the test holds: the number
+  pub read-written : (p : LastPlaces) → good && shortest && not (ltb 0 i && eqb v 0) ≡ true → p .0 ≡ signed (ltb 0 i) v → Number d p ≡ readNumber t
+  unfolding readNumber
+  read-written p e q =
+      let g : good ≡ true = both good shortest (both (good && shortest) (not (ltb 0 i && eqb v 0)) e .0) .0 in
+      let is : isDecimal (afterMinus t) ≡ true = sym (decimal .is) ∙ g in
+      let dn : d ≡ decimalsIn (afterMinus t) = decimal .places ∙ rw is in
+      let vn : v ≡ valueIn (afterMinus t) = decimal .number ∙ rw is in
+      let z : p .0 ≡ signed (hasMinus t) (valueIn (afterMinus t)) = q ∙ rw (m .has, vn) in
+      rw (sym written ∙ e)
+      (ap (λ (x : ℕ). Number x p) dn ∙ ap (λ (x : ℤ). Number (decimalsIn (afterMinus t)) (record { 0 = x })) z)
+
+  -- the test fails: none
+  pub not-written : good && shortest && not (ltb 0 i && eqb v 0) ≡ false → NoNumber ≡ readNumber t
+  unfolding readNumber
+  not-written e = rw (sym written ∙ e)
+
+-- ---- the field
+
+-- any length but ten
+pub wrong-width : (l : List ℕ) → (length l ≡ 10 → ⊥) → NoNumber ≡ readField l
+unfolding readField
+wrong-width l n = rw (ne-eqb (length l) 10 n)
+
+-- ten characters, i of which are the leading spaces
+pub field-read : (l : List ℕ) (i : ℕ) (x : FieldRead) → length l ≡ 10 → drop i l ≡ afterSpaces l → x ≡ readNumber (take (length l - i) (drop i l)) → x ≡ readField l
+unfolding readField
+field-read l i x h a e = rw (eq-eqb (length l) 10 h) (e ∙ ap readNumber (rest-is i l ∙ a))

@@ -1,0 +1,11 @@
+pub mod DecimalText
+mod Ending
+mod FieldText
+pub mod Named
+mod NumberText
+pub mod ReadBack
+mod SameText
+pub mod Searching
+mod TypedText
+pub mod Width
+pub mod WriteBack

@@ -1,0 +1,7 @@
+pub mod Ascii
+pub mod Decimals
+pub mod Field
+pub mod Reading
+pub mod Searching
+pub mod Typed
+pub mod Units

@@ -1,0 +1,177 @@
+// Reading the text of a number back.
+ghost use mathlib.Core.Path.{_≡_};
+ghost use Prim.Native.Nat.{_<_, _≤_};
+ghost use lib.ListN.{length, drop};
+ghost use Rattle.text.specs.Decimals.{TenDigits, ReadsWhole, ReadsDecimal, MinusAt};
+ghost use Rattle.text.specs.Reading.{afterSpaces, beforePoint, noLeadingZero, signed, readNumber, readField};
+use crate::scanning::first_at;
+use weight::LastPlaces;
+
+// What ten characters are read as: the decimals and the number.
+pub enum FieldRead {
+    Number(u8, LastPlaces),
+    NoNumber,
+}
+
+// A text of digits, and the number that it stands for; 0 where it is none.
+struct Whole {
+    good: bool,
+    value: u64,
+}
+
+// A text of digits with or without a point: its decimals and its number without the point; 0 and 0 where it is none.
+pub struct Decimal {
+    pub good: bool,
+    pub decimals: u8,
+    pub value: u64,
+}
+
+const POINT: u8 = 46;
+
+const FIELD_WIDTH: usize = 10;
+
+const MOST_DECIMALS: usize = 6;
+
+// How many spaces the text begins with.
+fn space_count(text: &[u8]) -> usize
+    ensures { λ r. ⌜ r ≤ length (now (text .entry)) ⌝ }
+    ensures { λ r. ⌜ drop r (now (text .entry)) ≡ afterSpaces (now (text .entry)) ⌝ }
+{
+    let mut i = 0;
+    while i < text.len() {
+        if text[i] != b' ' {
+            return i;
+        }
+        i += 1;
+    }
+    i
+}
+
+// A text of digits after digits that stand for `start`, ten in all at most, so that no sum wraps.
+fn read_whole(text: &[u8], start: u64) -> Whole
+    requires { ⌜ TenDigits (now text) start ⌝ }
+    ensures { λ r. ⌜ ReadsWhole (now (text .entry)) start (r .good) (r .value) ⌝ }
+{
+    if text.len() < 1 {
+        return Whole {
+            good: false,
+            value: 0,
+        };
+    }
+    let mut value = start;
+    let mut i = 0;
+    while i < text.len() {
+        let c = text[i];
+        if c < b'0' {
+            return Whole {
+                good: false,
+                value: 0,
+            };
+        }
+        if b'9' < c {
+            return Whole {
+                good: false,
+                value: 0,
+            };
+        }
+        value = value * 10 + (c - b'0') as u64;
+        i += 1;
+    }
+    Whole { good: true, value }
+}
+
+// A decimal of at most ten characters.
+pub fn read_decimal(text: &[u8]) -> Decimal
+    requires { ⌜ length (now text) ≤ 10 ⌝ }
+    ensures { λ r. ⌜ ReadsDecimal (now (text .entry)) (r .good) (r .decimals) (r .value) ⌝ }
+{
+    let point = first_at(text, POINT);
+    let whole = read_whole(&text[..point], 0);
+    if point < text.len() {
+        let start = point + 1;
+        let count = text.len() - start;
+        let all = read_whole(&text[start..], whole.value);
+        if whole.good & all.good {
+            if count <= MOST_DECIMALS {
+                return Decimal {
+                    good: true,
+                    decimals: count as u8,
+                    value: all.value,
+                };
+            }
+        }
+        return Decimal {
+            good: false,
+            decimals: 0,
+            value: 0,
+        };
+    }
+    Decimal {
+        good: whole.good,
+        decimals: 0,
+        value: whole.value,
+    }
+}
+
+// How many minus signs the text begins with: one or none.
+fn minus_count(text: &[u8]) -> usize
+    ensures { λ r. ⌜ MinusAt (now (text .entry)) r ⌝ }
+{
+    if text.len() < 1 {
+        return 0;
+    }
+    if text[0] == b'-' {
+        return 1;
+    }
+    0
+}
+
+// Whether no zero leads the digits before the point, save one that stands alone.
+fn no_leading_zero(text: &[u8]) -> bool
+    ensures { λ r. ⌜ r ≡ noLeadingZero (beforePoint (now (text .entry))) ⌝ }
+{
+    if text.len() < 2 {
+        return true;
+    }
+    (text[0] != b'0') | (text[1] == POINT)
+}
+
+// A number with its sign.
+fn places(negative: bool, value: u64) -> LastPlaces
+    requires { ⌜ value < 10_000_000_000 ⌝ }
+    ensures { λ r. ⌜ r .0 ≡ signed negative value ⌝ }
+{
+    let n = value as i64;
+    if negative {
+        return LastPlaces(-n);
+    }
+    LastPlaces(n)
+}
+
+// A number written as a weight is: `text` is what follows the spaces.
+fn read_number(text: &[u8]) -> FieldRead
+    requires { ⌜ length (now text) ≤ 10 ⌝ }
+    ensures { λ r. ⌜ r ≡ readNumber (now (text .entry)) ⌝ }
+{
+    let start = minus_count(text);
+    let negative = 0 < start;
+    let digits = &text[start..];
+    let number = read_decimal(digits);
+    let shortest = no_leading_zero(digits);
+    let minus_zero = negative & (number.value == 0);
+    if number.good & shortest & !minus_zero {
+        return FieldRead::Number(number.decimals, places(negative, number.value));
+    }
+    FieldRead::NoNumber
+}
+
+// A field of ten characters.
+pub fn read_field(text: &[u8]) -> FieldRead
+    ensures { λ r. ⌜ r ≡ readField (now (text .entry)) ⌝ }
+{
+    if text.len() != FIELD_WIDTH {
+        return FieldRead::NoNumber;
+    }
+    let start = space_count(text);
+    read_number(&text[start..])
+}

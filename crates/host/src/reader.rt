@@ -4,8 +4,6 @@ ghost use Prim.Native.Nat.{_+_, _≤_};
 ghost use lib.ListN.{length};
 ghost use Rattle.host.specs.Reads.{textPlace, readLine};
 ghost use Rattle.line.specs.Judging.{beforeSpace};
-use crate::forms::can_form;
-use crate::forms::plain_form;
 use crate::frame::is_ended;
 use crate::frame::is_framed;
 use crate::guess::guess_answer;
@@ -15,6 +13,8 @@ use crate::scan::name_length;
 use crate::scan::part;
 use answer::Answer;
 use answer::find_command;
+use forms::can_form;
+use forms::plain_form;
 
 // No line that can be formed is longer: I2 with a text of 40 bytes.
 const LONGEST: usize = 49;

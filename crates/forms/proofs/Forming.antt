@@ -1,28 +1,24 @@
--- What can be formed: its length, and its text's place.
+-- What can be formed: what its test says, and its length.
 -- Assumes nothing.
-use mathlib.Core.Path.{_≡_, refl}
+use mathlib.Core.Path.{_≡_}
 use mathlib.Core.Logic.{⊎-elim}
 use mathlib.Core.Bool.{true, _&&_, _||_}
-use mathlib.Core.List.{List, [], _∷_, _++_}
-use Prim.Native.Nat.{ℕ, _+_, _-_, _≤_}
+use mathlib.Core.List.{List}
+use Prim.Native.Nat.{ℕ, _≤_}
 use native.Mathlib.Omega.{arith}
-use borrow.Author.Tests.{leb-true, eqb-true}
-use lib.Dec.{leb, ltb}
-use lib.ListN.{length, length-append}
-use lib.Seq.{drop-append-add, take-append-seam}
+use borrow.Author.Tests.{leb-true}
+use lib.Dec.{leb}
+use lib.ListN.{length}
 use lib.Signed.{nonNeg}
-use Rattle.answer.specs.Commands.{nameOf}
-use Rattle.answer.specs.Lines.{lineEnd, lineOf}
+use Rattle.answer.specs.Lines.{lineOf}
 use Rattle.answer.specs.declared.answer.Answer.{Answer}
 use Rattle.answer.specs.declared.answer.Answer.the-variants.{Nothing, Plain, Weight, Refused, Text, Listed, CommandList, Versions}
 use Rattle.answer.specs.declared.answer.Head.{Head}
 use Rattle.answer.specs.declared.answer.Number.{Number}
 use Rattle.answer.proofs.Lengths.{plain-length, weight-length, refused-length, text-length, listed-length, versions-length}
 use Rattle.answer.proofs.Names.{name-short}
-use Rattle.host.specs.Forms.{plainForm, weightForm, numberForm, noText, canForm, isS, isIdentity}
-use Rattle.host.specs.Reads.{textPlace, textAt}
-use Rattle.host.proofs.Places.{identity-width}
-use Rattle.host.proofs.Shapes.{quotedEnd, text-line}
+use Rattle.forms.specs.Forms.{weightForm, numberForm, noText, canForm, isS, isIdentity}
+use Rattle.forms.proofs.Places.{identity-width}
 use Rattle.line.specs.Judging.{isPrintable}
 use Rattle.weight.specs.Field.{fitsField}
 use Rattle.weight.proofs.Named.{unit-short}
@@ -66,26 +62,3 @@ form-length (Text c) t e = omega (arith, text-length c t, identity-width c (text
 form-length (Listed last c) t e = omega (arith, listed-length last c t, name-short c)
 form-length CommandList t e = let z : _≡_ {A = ℕ} 0 1 = cc in absurd (omega arith)
 form-length Versions t e = omega (arith, versions-length t)
-
--- ---- the text beside an answer stands in its line
-
-none-is : (t : List ℕ) → noText t ≡ true → [] ≡ t
-none-is [] e = refl
-none-is (c ∷ t) e = let z = eqb-true (length (c ∷ t)) 0 e in absurd (omega arith)
-
-text-stands : (w t : List ℕ) → length w ≡ 2 → textAt (textPlace (Text 0) (w ++ (32 ∷ 65 ∷ 32 ∷ quotedEnd t))) (w ++ (32 ∷ 65 ∷ 32 ∷ quotedEnd t)) ≡ t
-text-stands w t e =
-    let l = w ++ (32 ∷ 65 ∷ 32 ∷ quotedEnd t) in
-    let size : length l - 9 ≡ length t = omega (arith, length-append w (32 ∷ 65 ∷ 32 ∷ quotedEnd t), length-append t (34 ∷ lineEnd)) in
-    let at : 6 ≡ length w + 4 = omega arith in
-    rw (size, at, drop-append-add w (32 ∷ 65 ∷ 32 ∷ quotedEnd t) 4) (take-append-seam t (34 ∷ lineEnd))
-
-pub text-back : (a : Answer) (t : List ℕ) → canForm a t ≡ true → textAt (textPlace a (lineOf a t)) (lineOf a t) ≡ t
-text-back Nothing t e = let z : _≡_ {A = ℕ} 0 1 = cc in absurd (omega arith)
-text-back (Plain h) t e = none-is t (both-right (plainForm (h .identification) (h .status)) (noText t) e)
-text-back (Weight h n) t e = none-is t (both-right (weightForm (h .identification) (h .status) && numberForm (h .identification) n) (noText t) e)
-text-back (Refused e) t form = none-is t form
-text-back (Text c) t e = rw (text-line c t) (text-stands (nameOf c) t (identity-width c (text-command c t e)))
-text-back (Listed last c) t e = none-is t (both-right (ltb c 18) (noText t) e)
-text-back CommandList t e = let z : _≡_ {A = ℕ} 0 1 = cc in absurd (omega arith)
-text-back Versions t e = none-is t e

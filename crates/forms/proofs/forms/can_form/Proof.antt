@@ -1,8 +1,8 @@
--- `host::forms::can_form` meets its contract.
+-- `forms::forms::can_form` meets its contract.
 -- Assumes nothing.
 use borrow.Author.Needs.{needs}
-use Rattle.host.proofs.forms.can_form.Statement.{statement}
-use Rattle.host.proofs.forms.can_form.Tie as tie
+use Rattle.forms.proofs.forms.can_form.Statement.{statement}
+use Rattle.forms.proofs.forms.can_form.Tie as tie
 
 enum-told : tie.Need-enum-told
 enum-told c = search needs

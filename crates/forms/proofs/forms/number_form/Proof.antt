@@ -1,8 +1,8 @@
--- `host::forms::number_form` meets its contract.
+-- `forms::forms::number_form` meets its contract.
 -- Assumes nothing.
 use borrow.Author.Needs.{needs}
-use Rattle.host.proofs.forms.number_form.Statement.{statement}
-use Rattle.host.proofs.forms.number_form.Tie as tie
+use Rattle.forms.proofs.forms.number_form.Statement.{statement}
+use Rattle.forms.proofs.forms.number_form.Tie as tie
 
 fits-requires : tie.Need-fits-requires
 fits-requires c κs = search needs

@@ -1,8 +1,8 @@
--- `host::forms::weight_form` meets its contract.
+-- `forms::forms::plain_form` meets its contract.
 -- Assumes nothing.
 use borrow.Author.Needs.{needs}
-use Rattle.host.proofs.forms.weight_form.Statement.{statement}
-use Rattle.host.proofs.forms.weight_form.Tie as tie
+use Rattle.forms.proofs.forms.plain_form.Statement.{statement}
+use Rattle.forms.proofs.forms.plain_form.Tie as tie
 
 enum-told : tie.Need-enum-told
 enum-told c = search needs
@@ -25,8 +25,14 @@ enum-told-6 c = search needs
 enum-told-7 : tie.Need-enum-told-7
 enum-told-7 c = search needs
 
+has-limits-requires : tie.Need-has-limits-requires
+has-limits-requires c κs = search needs
+
 enum-told-8 : tie.Need-enum-told-8
 enum-told-8 c = search needs
+
+has-limits-requires-2 : tie.Need-has-limits-requires-2
+has-limits-requires-2 c κs = search needs
 
 returns : tie.Need-returns
 returns c = rw (c .enum-told .given .1)
@@ -47,13 +53,13 @@ returns-6 : tie.Need-returns-6
 returns-6 c = rw (c .enum-told6 .given .1)
 
 returns-7 : tie.Need-returns-7
-returns-7 c = rw (c .enum-told7 .given .1)
+returns-7 c = rw (c .before .enum-told7 .given .1) (c .has-limits .ensures)
 
 returns-8 : tie.Need-returns-8
-returns-8 c = rw (c .enum-told8 .given .1)
+returns-8 c = rw (c .before .enum-told8 .given .1) (c .has-limits2 .ensures)
 
-pub weight-form-spec : {M : Type 1} → statement M
-weight-form-spec =
+pub plain-form-spec : {M : Type 1} → statement M
+plain-form-spec =
     tie.close
     (tie.spec
     enum-told
@@ -63,7 +69,9 @@ weight-form-spec =
     enum-told-5
     enum-told-6
     enum-told-7
+    has-limits-requires
     enum-told-8
+    has-limits-requires-2
     returns
     returns-2
     returns-3

@@ -12,7 +12,7 @@ use lib.ListN.{length}
 use Rattle.answer.specs.Commands.{nameOf}
 use Rattle.answer.specs.declared.answer.Status.{Status}
 use Rattle.answer.specs.declared.answer.Status.the-variants.{A, B, S, D, I, L, Over, Under}
-use Rattle.host.specs.Forms.{isS, isZ, isZI, isD, isDW, isT, isTA, isTAC, isTI, isIdentification, isIdentity, plainForm, weightForm}
+use Rattle.forms.specs.Forms.{isS, isZ, isZI, isD, isDW, isT, isTA, isTAC, isTI, isIdentification, isIdentity, plainForm, weightForm}
 use Rattle.line.specs.Judging.{isSI, isSIR, isReset}
 use Rattle.weight.proofs.Allowed.{both-left, both-right, either-holds}
 

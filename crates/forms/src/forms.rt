@@ -2,7 +2,7 @@
 ghost use mathlib.Core.Path.{_≡_};
 ghost use mathlib.Core.Bool.{_||_};
 ghost use lib.Signed.{nonNeg};
-ghost use Rattle.host.specs.Forms.{isS, isZ, isZI, isT, isTI, plainForm, weightForm, numberForm, textForm, canForm};
+ghost use Rattle.forms.specs.Forms.{isS, isZ, isZI, isT, isTI, plainForm, weightForm, numberForm, textForm, canForm};
 use answer::Answer;
 use answer::D;
 use answer::DW;

@@ -1,8 +1,8 @@
--- `host::forms::text_form` meets its contract.
+-- `forms::forms::text_form` meets its contract.
 -- Assumes nothing.
 use borrow.Author.Needs.{needs}
-use Rattle.host.proofs.forms.text_form.Statement.{statement}
-use Rattle.host.proofs.forms.text_form.Tie as tie
+use Rattle.forms.proofs.forms.text_form.Statement.{statement}
+use Rattle.forms.proofs.forms.text_form.Tie as tie
 
 is-printable-requires : tie.Need-is-printable-requires
 is-printable-requires c κs = search needs

@@ -1,9 +1,9 @@
--- `host::forms::not_below_zero` meets its contract.
+-- `forms::forms::not_below_zero` meets its contract.
 -- Assumes nothing.
 use borrow.Author.Needs.{needs}
-use Rattle.host.proofs.Signs.{at-least-zero}
-use Rattle.host.proofs.forms.not_below_zero.Statement.{statement}
-use Rattle.host.proofs.forms.not_below_zero.Tie as tie
+use Rattle.forms.proofs.Signs.{at-least-zero}
+use Rattle.forms.proofs.forms.not_below_zero.Statement.{statement}
+use Rattle.forms.proofs.forms.not_below_zero.Tie as tie
 
 returns : tie.Need-returns
 returns c = at-least-zero (c .before .before .args .places .0) (search needs)

@@ -6,7 +6,8 @@ use mathlib.Core.List.{List, _++_}
 use Prim.Native.Nat.{ℕ}
 use lib.ListN.{length, drop}
 use native.Mathlib.Omega.{arith}
-use Rattle.answer.specs.Lines.{lineOf, fitsRoom, laidIn}
+use Rattle.answer.specs.Lines.{lineOf}
+use Rattle.emit.specs.Rooms.{fitsRoom, laidIn}
 use Rattle.answer.specs.declared.answer.Answer.{Answer}
 use Rattle.forms.specs.Forms.{canForm}
 use Rattle.host.specs.declared.reader.Read.{Read}

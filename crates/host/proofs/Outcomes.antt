@@ -7,11 +7,12 @@ use Prim.Native.Nat.{ℕ, _+_, _<_}
 use native.Mathlib.Omega.{arith}
 use lib.ListN.{length}
 use Rattle.answer.specs.Commands.{placeOf}
-use Rattle.answer.specs.Lines.{lineOf, fitsRoom, emitted, laidIn}
+use Rattle.answer.specs.Lines.{lineOf}
+use Rattle.emit.specs.Rooms.{fitsRoom, emitted, laidIn}
 use Rattle.answer.specs.declared.answer.Answer.{Answer}
 use Rattle.answer.specs.declared.answer.Answer.the-variants.{Plain}
 use Rattle.answer.specs.declared.answer.Head.{Head}
-use Rattle.answer.specs.declared.emit.Emitted.{Emitted}
+use Rattle.emit.specs.declared.emit.Emitted.{Emitted}
 use Rattle.forms.specs.Forms.{plainForm, canForm}
 use Rattle.forms.proofs.Forming.{form-length}
 use Rattle.host.specs.declared.reader.Read.the-variants.{Line, Refused}

@@ -4,7 +4,8 @@ use Prim.Native.Nat.{ℕ}
 use mathlib.Core.Bool.{cond}
 use mathlib.Core.List.{List}
 use lib.ListN.{length}
-use Rattle.answer.specs.Lines.{lineOf, fitsRoom, laidIn}
+use Rattle.answer.specs.Lines.{lineOf}
+use Rattle.emit.specs.Rooms.{fitsRoom, laidIn}
 use Rattle.answer.specs.declared.answer.Answer.{Answer}
 use Rattle.forms.specs.Forms.{canForm}
 use Rattle.host.specs.declared.reader.Read.{Read}

@@ -13,14 +13,22 @@ use Rattle.weight.specs.Field.{fitsField, fieldIf}
 use Rattle.weight.specs.Units.{unitText}
 use Rattle.answer.specs.declared.answer.Number.{Number}
 
--- a space and a status after a name
-pieces-two : (n s : List ℕ) (b : ℕ) → s ≡ b ∷ [] → n ++ (32 ∷ b ∷ []) ≡ n ++ (32 ∷ []) ++ s
-pieces-two n s b e = rw (e, append-assoc)
+-- a name, then a space with the status and the end
+plain-shape : (n s : List ℕ) (b : ℕ) → s ≡ b ∷ [] → n ++ (32 ∷ b ∷ 13 ∷ 10 ∷ []) ≡ n ++ (32 ∷ []) ++ s ++ lineEnd
+plain-shape n s b e = rw e (simp append-assoc)
 
--- the name, then a space with the status
-pub head-pieces : (h : Head) (b : ℕ) → statusText (h .status) ≡ b ∷ [] → nameOf (h .identification) ++ (32 ∷ b ∷ []) ≡ headText h
+pub plain-pieces : (h : Head) (b : ℕ) → statusText (h .status) ≡ b ∷ [] → nameOf (h .identification) ++ (32 ∷ b ∷ 13 ∷ 10 ∷ []) ≡ headText h ++ lineEnd
 unfolding headText
-head-pieces h b e = pieces-two (nameOf (h .identification)) (statusText (h .status)) b e
+plain-pieces h b e = plain-shape (nameOf (h .identification)) (statusText (h .status)) b e
+
+-- a name, the status between spaces, the number, the end
+weight-shape : (n s w : List ℕ) (b : ℕ) → s ≡ b ∷ [] → n ++ (32 ∷ b ∷ 32 ∷ []) ++ w ++ lineEnd ≡ n ++ (32 ∷ []) ++ s ++ ascii " " ++ w ++ lineEnd
+weight-shape n s w b e = rw e (simp append-assoc)
+
+pub weight-pieces : (h : Head) (w : List ℕ) (b : ℕ) → statusText (h .status) ≡ b ∷ []
+    → nameOf (h .identification) ++ (32 ∷ b ∷ 32 ∷ []) ++ w ++ lineEnd ≡ headText h ++ ascii " " ++ w ++ lineEnd
+unfolding headText
+weight-pieces h w b e = weight-shape (nameOf (h .identification)) (statusText (h .status)) w b e
 
 -- the field, a space, the unit
 pub number-pieces : (n : Number) (f : Field) → f ≡ fieldIf (fitsField (n .decimals) (n .places .0)) (n .decimals) (n .places .0)

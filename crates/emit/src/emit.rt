@@ -86,18 +86,6 @@ fn status_byte(status: Status) -> u8
     }
 }
 
-// Identification, space, status.
-fn put_head(out: &mut [u8], at: usize, head: Head) -> usize
-    requires { ⌜ at + length (headText head) ≤ length (now out) ⌝ }
-    ensures { λ r. ⌜ r ≡ at + length (headText head) ⌝ }
-    ensures { λ r. ⌜ now (out .exit) ≡ sets (now (out .entry)) at (headText head) ⌝ }
-{
-    let status = head.status;
-    let tail = [b' ', status_byte(status)];
-    let next = put_name(out, at, head.identification);
-    put(out, next, &tail)
-}
-
 // Ten characters, space, unit.
 fn put_number(out: &mut [u8], at: usize, number: Number) -> usize
     requires { ⌜ at + length (weightText number) ≤ length (now out) ⌝ }
@@ -118,8 +106,10 @@ fn put_plain(out: &mut [u8], at: usize, head: Head) -> usize
     ensures { λ r. ⌜ r ≡ at + length (headText head ++ lineEnd) ⌝ }
     ensures { λ r. ⌜ now (out .exit) ≡ sets (now (out .entry)) at (headText head ++ lineEnd) ⌝ }
 {
-    let next = put_head(out, at, head);
-    put(out, next, b"\r\n")
+    let status = head.status;
+    let tail = [b' ', status_byte(status), b'\r', b'\n'];
+    let next = put_name(out, at, head.identification);
+    put(out, next, &tail)
 }
 
 fn put_weight(out: &mut [u8], at: usize, head: Head, number: Number) -> usize
@@ -127,8 +117,10 @@ fn put_weight(out: &mut [u8], at: usize, head: Head, number: Number) -> usize
     ensures { λ r. ⌜ r ≡ at + length (headText head ++ ascii " " ++ weightText number ++ lineEnd) ⌝ }
     ensures { λ r. ⌜ now (out .exit) ≡ sets (now (out .entry)) at (headText head ++ ascii " " ++ weightText number ++ lineEnd) ⌝ }
 {
-    let gap = put_head(out, at, head);
-    let next = put(out, gap, b" ");
+    let status = head.status;
+    let middle = [b' ', status_byte(status), b' '];
+    let gap = put_name(out, at, head.identification);
+    let next = put(out, gap, &middle);
     let end = put_number(out, next, number);
     put(out, end, b"\r\n")
 }

@@ -197,14 +197,6 @@ fn put_list(out: &mut [u8], at: usize) -> usize
     next
 }
 
-fn put_versions(out: &mut [u8], at: usize) -> usize
-    requires { ⌜ at + length (ascii "I1 A \"0\" \"2.30\" \"2.20\"" ++ lineEnd) ≤ length (now out) ⌝ }
-    ensures { λ r. ⌜ r ≡ at + length (ascii "I1 A \"0\" \"2.30\" \"2.20\"" ++ lineEnd) ⌝ }
-    ensures { λ r. ⌜ now (out .exit) ≡ sets (now (out .entry)) at (ascii "I1 A \"0\" \"2.30\" \"2.20\"" ++ lineEnd) ⌝ }
-{
-    put(out, at, b"I1 A \"0\" \"2.30\" \"2.20\"\r\n")
-}
-
 fn unit_length(unit: WeightUnit) -> usize
     ensures { λ r. ⌜ r ≡ length (unitText unit) ⌝ }
     ensures { λ r. ⌜ r ≤ 3 ⌝ }
@@ -245,7 +237,7 @@ fn put_answer(out: &mut [u8], answer: Answer, text: &[u8]) -> usize
         Answer::Text(command) => put_text(out, 0, command, text),
         Answer::Listed(last, command) => put_listed(out, 0, last, command),
         Answer::CommandList => put_list(out, 0),
-        Answer::Versions => put_versions(out, 0),
+        Answer::Versions => put(out, 0, b"I1 A \"0\" \"2.30\" \"2.20\"\r\n"),
     }
 }
 

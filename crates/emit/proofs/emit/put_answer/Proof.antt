@@ -68,11 +68,14 @@ put-list-requires c κs =
 enum-told-3 : tie.Need-enum-told-3
 enum-told-3 c = search needs
 
-put-versions-requires : tie.Need-put-versions-requires
+slice-aggregate-put : tie.Need-slice-aggregate-put
+slice-aggregate-put c = search needs
+
+put-requires : tie.Need-put-requires
 unfolding lineOf
-put-versions-requires c κs =
-    let start = c .before .before .before .before .before in
-    line-room (start .args .out .now) (ap (λ (a : Answer). lineOf a (start .args .text .now)) (c .before .enum-told3 .given .1)) (start .pre)
+put-requires c κs =
+    let start = c .before .before .before .before .before .before in
+    line-room (start .args .out .now) (ap (λ (a : Answer). lineOf a (start .args .text .now)) (c .before .before .enum-told3 .given .1)) (start .pre)
 
 returns : tie.Need-returns
 unfolding lineOf
@@ -140,8 +143,8 @@ same-length-7 c = search needs
 returns-8 : tie.Need-returns-8
 unfolding lineOf
 returns-8 c =
-    let start = c .before .before .before .before .before .before .before .before in
-    line-laid (start .args .out .now) (ap (λ (a : Answer). lineOf a (start .args .text .now)) (c .before .before .before .before .enum-told3 .given .1)) (c .before .before .put-versions .ensures)
+    let start = c .before .before .before .before .before .before .before .before .before in
+    line-laid (start .args .out .now) (ap (λ (a : Answer). lineOf a (start .args .text .now)) (c .before .before .before .before .before .enum-told3 .given .1)) (c .before .before .put .ensures)
 
 pub put-answer-spec : {M : Type 1} → statement M
 put-answer-spec =
@@ -161,7 +164,8 @@ put-answer-spec =
     enum-told-2
     put-list-requires
     enum-told-3
-    put-versions-requires
+    slice-aggregate-put
+    put-requires
     returns
     same-length
     returns-2

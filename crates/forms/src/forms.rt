@@ -6,6 +6,7 @@ ghost use Rattle.forms.specs.Forms.{isS, isZ, isZI, isT, isTI, plainForm
 use answer::Answer;
 use answer::D;
 use answer::DW;
+use answer::Head;
 use answer::I2;
 use answer::I3;
 use answer::I5;
@@ -38,9 +39,11 @@ fn has_limits(command: u8) -> bool
 }
 
 // An identification and a status alone.
-pub fn plain_form(command: u8, status: Status) -> bool
-    ensures { λ r. ⌜ r ≡ plainForm command status ⌝ }
+pub fn plain_form(head: Head) -> bool
+    ensures { λ r. ⌜ r ≡ plainForm (head .identification) (head .status) ⌝ }
 {
+    let command = head.identification;
+    let status = head.status;
     match status {
         Status::A => (command == Z) | (command == TAC) | (command == D) | (command == DW),
         Status::B => false,
@@ -54,9 +57,11 @@ pub fn plain_form(command: u8, status: Status) -> bool
 }
 
 // The heads that a weight follows.
-fn weight_form(command: u8, status: Status) -> bool
-    ensures { λ r. ⌜ r ≡ weightForm command status ⌝ }
+fn weight_form(head: Head) -> bool
+    ensures { λ r. ⌜ r ≡ weightForm (head .identification) (head .status) ⌝ }
 {
+    let command = head.identification;
+    let status = head.status;
     match status {
         Status::A => command == TA,
         Status::B => false,
@@ -102,15 +107,9 @@ pub fn can_form(answer: Answer, text: &[u8]) -> bool
     let alone = text.len() == 0;
     match answer {
         Answer::Nothing => false,
-        Answer::Plain(head) => {
-            let status = head.status;
-            plain_form(head.identification, status) & alone
-        }
+        Answer::Plain(head) => plain_form(head) & alone,
         Answer::Weight(head, number) => {
-            let status = head.status;
-            weight_form(head.identification, status)
-                & number_form(head.identification, number)
-                & alone
+            weight_form(head) & number_form(head.identification, number) & alone
         }
         Answer::Refused(_) => alone,
         Answer::Text(command) => text_form(command, text),

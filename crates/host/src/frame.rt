@@ -66,14 +66,13 @@ pub fn is_framed(answer: Answer, line: &[u8], name: usize) -> bool
     requires { ⌜ name ≡ length (beforeSpace (now line)) ⌝ }
     ensures { λ r. ⌜ r ≡ frameOf answer (now (line .entry)) ⌝ }
 {
-    let ended = is_ended(line);
     match answer {
         Answer::Nothing => false,
-        Answer::Plain(_) => ended,
-        Answer::Weight(_, _) => is_weight_framed(line, name) & ended,
-        Answer::Refused(_) => is_error_framed(line) & ended,
-        Answer::Text(_) => is_text_framed(line) & ended,
-        Answer::Listed(last, command) => is_listed_framed(line, last, command) & ended,
+        Answer::Plain(_) => is_ended(line),
+        Answer::Weight(_, _) => is_weight_framed(line, name) & is_ended(line),
+        Answer::Refused(_) => is_error_framed(line) & is_ended(line),
+        Answer::Text(_) => is_text_framed(line) & is_ended(line),
+        Answer::Listed(last, command) => is_listed_framed(line, last, command) & is_ended(line),
         Answer::CommandList => false,
         Answer::Versions => same_text(b"I1 A \"0\" \"2.30\" \"2.20\"\r\n", line),
     }

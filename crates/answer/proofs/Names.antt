@@ -48,13 +48,6 @@ module _ (w : List ℕ) (n : Name) (c : ℕ) (e : n ≡ nameCells c) where
 pub no-name : (c : ℕ) → length names ≤ c → nameOf c ≡ []
 no-name c h = List·getD-eq-default names [] h
 
-pub no-name-length : (c : ℕ) → length names ≤ c → (0 ≡ length (nameOf c)) × (0 ≤ 3)
-no-name-length c h = (sym (ap length (no-name c h)), zero-le)
-
--- a name of its cells and its length
-pub name-made : (l : List ℕ) (k : ℕ) (n : Name) → l ≡ n .cells → k ≡ n .len → _≡_ {A = Name} (record { cells = l; len = k }) n
-name-made l k n e f = rw (e, f)
-
 -- ---- what callers use
 
 -- a test of every name, and of no name
@@ -71,6 +64,9 @@ at-name f (n ∷ ns) (suc c) e = at-name f ns c (both-right (f n) (everyName f n
 -- no name is over three characters
 pub name-short : (c : ℕ) → length (nameOf c) ≤ 3
 name-short c = leb-true (length (nameOf c)) 3 (at-name (λ n. leb (length n) 3) names c refl)
+
+pub cells-length : (n : Name) (c : ℕ) → n ≡ nameCells c → (n .len ≡ length (nameOf c)) × (n .len ≤ 3)
+cells-length n c e = rw e (refl, name-short c)
 
 level-by : (b : Bool) → cond b 0 1 ≤ 1
 level-by true = zero-le

@@ -3,8 +3,8 @@
 use Prim.Native.Nat.{ℕ, zero, suc, _+_}
 use mathlib.Core.Bool.{Bool, cond}
 use mathlib.Core.List.{List, [], _∷_, _++_}
-use lib.Dec.{leb, eqb}
-use lib.ListN.{length, drop}
+use lib.Dec.{eqb}
+use lib.ListN.{length}
 use Rattle.answer.specs.declared.answer.Status.{Status}
 use Rattle.answer.specs.declared.answer.Status.the-variants.{A, B, S, D, I, L, Over, Under}
 use Rattle.answer.specs.declared.answer.Head.{Head}
@@ -13,7 +13,6 @@ use Rattle.answer.specs.declared.answer.Error.{Error}
 use Rattle.answer.specs.declared.answer.Error.the-variants.{Syntax, Transmission, Logical}
 use Rattle.answer.specs.declared.answer.Answer.{Answer}
 use Rattle.answer.specs.declared.answer.Answer.the-variants.{Nothing, Plain, Weight, Refused, Text, Listed, CommandList, Versions}
-use Rattle.answer.specs.declared.emit.Emitted.{Emitted}
 use Rattle.answer.specs.Commands.{names, nameOf, levelOf}
 use Rattle.weight.specs.Ascii.{digit}
 use Rattle.text.specs.Ascii.{ascii}
@@ -72,16 +71,3 @@ lineOf (Text c) t = nameOf c ++ ascii " A " ++ quoted t ++ lineEnd
 lineOf (Listed last c) t = listedLine last c
 lineOf CommandList t = listedFrom (length names) 0
 lineOf Versions t = ascii "I1 A \"0\" \"2.30\" \"2.20\"" ++ lineEnd
-
--- ---- into a lent buffer
-
-abbrev pub fitsRoom : List ℕ → List ℕ → Bool
-fitsRoom line room = leb (length line) (length room)
-
--- the line's length, or 0 where the buffer is shorter
-unfoldable pub emitted : List ℕ → List ℕ → Emitted
-emitted line room = record { fits = fitsRoom line room; count = cond (fitsRoom line room) (length line) 0 }
-
--- the line and then the rest as before, or all as before where the buffer is shorter
-unfoldable pub laidIn : List ℕ → List ℕ → List ℕ
-laidIn line room = cond (fitsRoom line room) (line ++ drop (length line) room) room

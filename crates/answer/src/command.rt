@@ -1,7 +1,9 @@
 // The commands, each known by its place in the order in which I0 lists them.
 ghost use mathlib.Core.Path.{_≡_};
+ghost use mathlib.Core.List.{[], _∷_};
 ghost use Prim.Native.Nat.{_+_, _*_, _≤_};
 ghost use lib.ListN.{length};
+ghost use Rattle.answer.specs.declared.command.Name.{Name};
 ghost use Rattle.answer.specs.Commands.{nameOf, nameCells, levelOf, names, placeOf, endsOf, allEnds, placeAmong};
 ghost use Rattle.text.specs.Ascii.{sameText};
 use text::same_text;
@@ -50,30 +52,33 @@ pub struct Name {
     pub len: usize,
 }
 
+// The cells of a name one by one, and its length: the prover finds a match that makes arrays costly.
+struct Letters(u8, u8, u8, usize);
+
 // Past the end there is no name.
-fn name_cells(command: u8) -> [u8; 3]
-    ensures { λ r. ⌜ r ≡ nameCells command .cells ⌝ }
+fn letters_of(command: u8) -> Letters
+    ensures { λ r. ⌜ _≡_ {A = Name} (record { cells = r .0 ∷ r .1 ∷ r .2 ∷ []; len = r .3 }) (nameCells command) ⌝ }
 {
     match command {
-        I0 => *b"I0 ",
-        I1 => *b"I1 ",
-        I2 => *b"I2 ",
-        I3 => *b"I3 ",
-        I4 => *b"I4 ",
-        I5 => *b"I5 ",
-        S => *b"S  ",
-        SI => *b"SI ",
-        SIR => *b"SIR",
-        Z => *b"Z  ",
-        ZI => *b"ZI ",
-        RESET => *b"@  ",
-        D => *b"D  ",
-        DW => *b"DW ",
-        T => *b"T  ",
-        TA => *b"TA ",
-        TAC => *b"TAC",
-        TI => *b"TI ",
-        _ => *b"   ",
+        I0 => Letters(b'I', b'0', b' ', 2),
+        I1 => Letters(b'I', b'1', b' ', 2),
+        I2 => Letters(b'I', b'2', b' ', 2),
+        I3 => Letters(b'I', b'3', b' ', 2),
+        I4 => Letters(b'I', b'4', b' ', 2),
+        I5 => Letters(b'I', b'5', b' ', 2),
+        S => Letters(b'S', b' ', b' ', 1),
+        SI => Letters(b'S', b'I', b' ', 2),
+        SIR => Letters(b'S', b'I', b'R', 3),
+        Z => Letters(b'Z', b' ', b' ', 1),
+        ZI => Letters(b'Z', b'I', b' ', 2),
+        RESET => Letters(b'@', b' ', b' ', 1),
+        D => Letters(b'D', b' ', b' ', 1),
+        DW => Letters(b'D', b'W', b' ', 2),
+        T => Letters(b'T', b' ', b' ', 1),
+        TA => Letters(b'T', b'A', b' ', 2),
+        TAC => Letters(b'T', b'A', b'C', 3),
+        TI => Letters(b'T', b'I', b' ', 2),
+        _ => Letters(b' ', b' ', b' ', 0),
     }
 }
 
@@ -81,35 +86,17 @@ pub fn name_length(command: u8) -> usize
     ensures { λ r. ⌜ r ≡ length (nameOf command) ⌝ }
     ensures { λ r. ⌜ r ≤ 3 ⌝ }
 {
-    match command {
-        I0 => 2,
-        I1 => 2,
-        I2 => 2,
-        I3 => 2,
-        I4 => 2,
-        I5 => 2,
-        S => 1,
-        SI => 2,
-        SIR => 3,
-        Z => 1,
-        ZI => 2,
-        RESET => 1,
-        D => 1,
-        DW => 2,
-        T => 1,
-        TA => 2,
-        TAC => 3,
-        TI => 2,
-        _ => 0,
-    }
+    let letters = letters_of(command);
+    letters.3
 }
 
 pub fn name_of(command: u8) -> Name
     ensures { λ r. ⌜ r ≡ nameCells command ⌝ }
 {
+    let letters = letters_of(command);
     Name {
-        cells: name_cells(command),
-        len: name_length(command),
+        cells: [letters.0, letters.1, letters.2],
+        len: letters.3,
     }
 }
 

@@ -1,8 +1,7 @@
-// What the module answers: the commands by their place, answers as values, and their bytes.
+// What the module answers: the commands by their place, and answers as values.
 // The crates above use the promises of the functions named here and the laws of proofs/.
 mod answer;
 mod command;
-mod emit;
 
 pub use answer::Answer;
 pub use answer::Error;
@@ -31,6 +30,5 @@ pub use command::Z;
 pub use command::ZI;
 pub use command::find_command;
 pub use command::level_of;
+pub use command::name_length;
 pub use command::name_of;
-pub use emit::Emitted;
-pub use emit::emit_answer;

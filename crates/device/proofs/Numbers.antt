@@ -4,7 +4,7 @@ use mathlib.Core.Path.{_≡_, refl}
 use mathlib.Core.Bool.{Bool, true, false, cond}
 use mathlib.Core.List.{List}
 use Prim.Native.Nat.{ℕ}
-use Rattle.answer.specs.Lines.{fitsRoom}
+use Rattle.emit.specs.Rooms.{fitsRoom}
 use Rattle.answer.specs.declared.answer.Answer.the-variants.{Text}
 use Rattle.waiting.specs.declared.react.Reaction.{Reaction}
 use Rattle.device.specs.Calls.{

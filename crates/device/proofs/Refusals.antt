@@ -6,8 +6,8 @@ use mathlib.Core.List.{List}
 use Prim.Native.Nat.{ℕ}
 use borrow.Author.Tests.{not-true, not-false}
 use Rattle.answer.specs.declared.answer.Answer.the-variants.{Nothing, Text}
-use Rattle.answer.specs.declared.emit.Emitted.{Emitted}
-use Rattle.answer.specs.Lines.{emitted, laidIn}
+use Rattle.emit.specs.declared.emit.Emitted.{Emitted}
+use Rattle.emit.specs.Rooms.{emitted, laidIn}
 use Rattle.waiting.specs.declared.react.Reaction.{Reaction}
 use Rattle.commands.specs.Reactions.{byteReaction, lineReaction}
 use Rattle.waiting.specs.Waits.{sampleReaction, isAwaited, reaction, sampledState, withLine}

@@ -7,7 +7,8 @@ use mathlib.Core.List.{List}
 use lib.ListN.{length}
 use Rattle.answer.specs.declared.answer.Answer.{Answer}
 use Rattle.answer.specs.declared.answer.Answer.the-variants.{Nothing, Plain, Weight, Refused, Text, Listed, CommandList, Versions}
-use Rattle.answer.specs.Lines.{lineOf, fitsRoom, laidIn}
+use Rattle.answer.specs.Lines.{lineOf}
+use Rattle.emit.specs.Rooms.{fitsRoom, laidIn}
 use Rattle.model.specs.declared.refusal.Refusal.{Refusal}
 use Rattle.model.specs.declared.refusal.Refusal.the-variants as refusals
 use Rattle.device.specs.declared.call.Called.{Called}

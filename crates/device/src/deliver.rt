@@ -2,12 +2,13 @@
 ghost use mathlib.Core.Path.{_≡_};
 ghost use mathlib.Core.Bool.{true};
 ghost use Prim.Native.Nat.{_≤_};
-ghost use Rattle.answer.specs.Lines.{lineOf, emitted, laidIn};
+ghost use Rattle.answer.specs.Lines.{lineOf};
+ghost use Rattle.emit.specs.Rooms.{emitted, laidIn};
 ghost use Rattle.device.specs.Calls.{identityIn, answerBytes};
 ghost use Rattle.model.specs.Profiles.{profileAllowed, textOf20, textOf40};
 use answer::Answer;
-use answer::Emitted;
-use answer::emit_answer;
+use emit::Emitted;
+use emit::emit_answer;
 use model::Profile;
 use model::Text20;
 use model::Text40;

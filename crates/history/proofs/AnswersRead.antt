@@ -14,6 +14,7 @@ use Rattle.answer.specs.declared.answer.Answer.the-variants.{Plain, Weight, Com
 use Rattle.answer.specs.declared.answer.Answer.the-variants as answers
 use Rattle.answer.specs.declared.answer.Status.{Status}
 use Rattle.answer.specs.declared.answer.Status.the-variants.{A, S, D, I, L, Over, Under}
+use Rattle.forms.specs.Forms.{plainForm, textForm}
 use Rattle.model.specs.declared.profile.Profile.{Profile}
 use Rattle.model.specs.declared.profile.Text20.{Text20}
 use Rattle.model.specs.declared.profile.Text40.{Text40}
@@ -38,7 +39,6 @@ use Rattle.history.proofs.WaitsAllowed.{by-choice}
 use Rattle.history.proofs.Verdicts.{verdict-proper}
 use Rattle.history.proofs.WeightLines.{weighed-shows, tared-shows, tared-now-shows, told-shows}
 use Rattle.history.specs.Tally.{isWeightAnswer, tellsNet, grantsTare}
-use Rattle.host.specs.Forms.{plainForm, textForm}
 use Rattle.line.specs.declared.judge.Verdict.{Verdict}
 use Rattle.line.specs.declared.judge.Verdict.the-variants.{Refused, Reset, Busy, Wrong, NoSample, Run, Preset, Show}
 use Rattle.line.specs.declared.receive.Line.{Line}

@@ -14,6 +14,7 @@ use Rattle.answer.specs.declared.answer.Answer.{Answer}
 use Rattle.answer.specs.declared.answer.Answer.the-variants.{Nothing, Plain, Weight, Refused, Text, Listed, CommandList, Versions}
 use Rattle.answer.specs.declared.answer.Error.{Error}
 use Rattle.answer.specs.declared.answer.Status.{Status}
+use Rattle.forms.specs.Forms.{plainForm, weightForm, isS, canForm}
 use Rattle.model.specs.declared.profile.Profile.{Profile}
 use Rattle.device.specs.Calls.{answerText, answerBytes}
 use Rattle.weighing.specs.Weighings.{headOf, numberOf}
@@ -21,7 +22,6 @@ use Rattle.history.specs.EndToEnd.{piecesAfter, piecesOf, valueHolds, pi
 use Rattle.history.specs.Tally.{Tally, isWeightAnswer, numberFemtograms, exactWeight, allowance, weightHolds}
 use Rattle.history.proofs.Pieces.{listed-first, formed-piece}
 use Rattle.history.proofs.WeightLines.{Shows, places-printed, field-fits}
-use Rattle.host.specs.Forms.{plainForm, weightForm, isS, canForm}
 use Rattle.host.proofs.Inverse.{read-written}
 use Rattle.weight.specs.Printing.{printable}
 use Rattle.weight.specs.Rounding.{placesOf}

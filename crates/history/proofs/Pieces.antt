@@ -19,9 +19,9 @@ use Rattle.answer.specs.declared.answer.Head.{Head}
 use Rattle.answer.specs.declared.answer.Number.{Number}
 use Rattle.answer.specs.declared.answer.Status.{Status}
 use Rattle.answer.specs.declared.answer.Status.the-variants.{A, B, S, D, I, L, Over, Under}
+use Rattle.forms.specs.Forms.{isIdentity, canForm}
 use Rattle.history.specs.EndToEnd.{piecesAfter, piecesOf}
 use Rattle.answer.proofs.Names.{at-name}
-use Rattle.host.specs.Forms.{isIdentity, canForm}
 use Rattle.line.specs.Judging.{isPrintable}
 use Rattle.weight.specs.Ascii.{digit, space}
 use Rattle.text.specs.Ascii.{ascii}

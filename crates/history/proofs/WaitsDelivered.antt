@@ -8,7 +8,7 @@ use native.Mathlib.Omega.{arith}
 use lib.ListN.{length, take, drop}
 use lib.Seq.{take-append-seam}
 use Rattle.answer.specs.declared.answer.Answer.the-variants.{Text}
-use Rattle.answer.specs.Lines.{fitsRoom, laidIn}
+use Rattle.emit.specs.Rooms.{fitsRoom, laidIn}
 use Rattle.device.specs.declared.call.Called.{Called}
 use Rattle.model.specs.declared.refusal.Refusal.the-variants as refusals
 use Rattle.model.specs.declared.profile.Profile.{Profile}

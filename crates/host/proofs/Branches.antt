@@ -14,7 +14,7 @@ use Rattle.answer.specs.declared.answer.Answer.{Answer}
 use Rattle.answer.specs.declared.answer.Answer.the-variants.{Plain, Text, Listed, Versions}
 use Rattle.answer.specs.declared.answer.Head.{Head}
 use Rattle.answer.specs.declared.answer.Status.{Status}
-use Rattle.host.specs.Forms.{isIdentity}
+use Rattle.forms.specs.Forms.{isIdentity}
 use Rattle.host.specs.Reads.{errorGuess, statusGuess, weightGuess, headGuess, fieldGuess, unitGuess, listedGuess, namedGuess, guessed}
 use Rattle.line.specs.Judging.{beforeSpace, hasSpace}
 use Rattle.weight.specs.Ascii.{space}

@@ -20,12 +20,12 @@ use Rattle.answer.specs.declared.answer.Number.{Number}
 use Rattle.answer.specs.declared.answer.Status.{Status}
 use Rattle.answer.specs.declared.answer.Status.the-variants.{A, B, S, D, I, L, Over, Under}
 use Rattle.answer.proofs.Names.{found-name}
-use Rattle.host.specs.Forms.{plainForm, weightForm, canForm, isIdentity}
+use Rattle.forms.specs.Forms.{plainForm, weightForm, canForm, isIdentity}
+use Rattle.forms.proofs.Forming.{weight-head, text-command}
+use Rattle.forms.proofs.Places.{plain-place, weight-place, identity-place, identity-width}
 use Rattle.host.specs.Frames.{isEnded, weightFrame, errorFrame, textFrame, listedFrame, frameOf}
 use Rattle.host.specs.Reads.{statusGuess, errorGuess, weightGuess, headGuess, fieldGuess, unitGuess, listedGuess, namedGuess, plainLength, guessed, textPlace, textAt, confirms}
-use Rattle.host.proofs.Forming.{weight-head, text-command}
 use Rattle.host.proofs.Frames.{plain-same, weight-same, text-same, listed-same, error-same}
-use Rattle.host.proofs.Places.{plain-place, weight-place, identity-place, identity-width}
 use Rattle.host.proofs.Shapes.{statusByte, weightRest, quotedEnd, plain-line, weight-line, text-line, listed-line}
 use Rattle.line.specs.Judging.{beforeSpace, afterSpace, hasSpace}
 use Rattle.text.specs.Ascii.{ascii, sameText}

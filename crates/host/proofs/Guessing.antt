@@ -18,11 +18,11 @@ use Rattle.answer.specs.declared.answer.Error.the-variants.{Syntax, Transmissio
 use Rattle.answer.specs.declared.answer.Head.{Head}
 use Rattle.answer.specs.declared.answer.Number.{Number}
 use Rattle.answer.proofs.Names.{name-found}
-use Rattle.host.specs.Forms.{plainForm, weightForm, noText, canForm, isIdentity}
+use Rattle.forms.specs.Forms.{plainForm, weightForm, noText, canForm, isIdentity}
+use Rattle.forms.proofs.Forming.{weight-head, weight-fits, text-command}
+use Rattle.forms.proofs.Places.{plain-place, weight-place, identity-place}
 use Rattle.host.specs.Reads.{statusGuess, weightGuess, headGuess, fieldGuess, unitGuess, listedGuess, guessed}
-use Rattle.host.proofs.Forming.{weight-head, weight-fits, text-command}
 use Rattle.host.proofs.Named.{name-unspaced, before-word, word-spaced}
-use Rattle.host.proofs.Places.{plain-place, weight-place, identity-place}
 use Rattle.host.proofs.Shapes.{statusByte, status-back, weightRest, quotedEnd, listedByte, plain-line, weight-line, text-line, listed-line}
 use Rattle.line.specs.Judging.{hasSpace}
 use Rattle.weight.specs.Ascii.{digit}

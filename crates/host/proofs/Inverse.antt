@@ -7,11 +7,11 @@ use Prim.Native.Nat.{ℕ}
 use native.Mathlib.Omega.{arith}
 use Rattle.answer.specs.Lines.{lineOf}
 use Rattle.answer.specs.declared.answer.Answer.{Answer}
+use Rattle.forms.specs.Forms.{canForm}
 use Rattle.host.specs.declared.reader.Read.the-variants.{Line, Refused}
 use Rattle.host.specs.declared.reader.ReadText.{ReadText}
-use Rattle.host.specs.Forms.{canForm}
 use Rattle.host.specs.Reads.{guessed, textPlace, textAt, confirms, readLine}
-use Rattle.host.proofs.Forming.{text-back}
+use Rattle.host.proofs.Texts.{text-back}
 use Rattle.host.proofs.Guessing.{guessed-back}
 use Rattle.text.specs.Ascii.{sameText}
 use Rattle.weight.proofs.Allowed.{both-left, both-right}

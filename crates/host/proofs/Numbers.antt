@@ -6,12 +6,13 @@ use mathlib.Core.List.{List, _++_}
 use Prim.Native.Nat.{ℕ}
 use lib.ListN.{length, drop}
 use native.Mathlib.Omega.{arith}
-use Rattle.answer.specs.Lines.{lineOf, fitsRoom, laidIn}
+use Rattle.answer.specs.Lines.{lineOf}
+use Rattle.emit.specs.Rooms.{fitsRoom, laidIn}
 use Rattle.answer.specs.declared.answer.Answer.{Answer}
+use Rattle.forms.specs.Forms.{canForm}
 use Rattle.host.specs.declared.reader.Read.{Read}
 use Rattle.host.specs.declared.reader.Read.the-variants.{Line, Refused}
 use Rattle.host.specs.declared.writer.Refusal.the-variants as refusals
-use Rattle.host.specs.Forms.{canForm}
 use Rattle.host.specs.Reads.{readLine}
 use Rattle.host.specs.Writes.{numberOfRead, numberOfRefusal, refusalOf, countIf, writtenLine, writtenBuffer}
 use Rattle.host.proofs.Inverse.{Unformed, refused-exactly}

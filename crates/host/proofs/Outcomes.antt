@@ -7,22 +7,23 @@ use Prim.Native.Nat.{ℕ, _+_, _<_}
 use native.Mathlib.Omega.{arith}
 use lib.ListN.{length}
 use Rattle.answer.specs.Commands.{placeOf}
-use Rattle.answer.specs.Lines.{lineOf, fitsRoom, emitted, laidIn}
+use Rattle.answer.specs.Lines.{lineOf}
+use Rattle.emit.specs.Rooms.{fitsRoom, emitted, laidIn}
 use Rattle.answer.specs.declared.answer.Answer.{Answer}
 use Rattle.answer.specs.declared.answer.Answer.the-variants.{Plain}
 use Rattle.answer.specs.declared.answer.Head.{Head}
-use Rattle.answer.specs.declared.emit.Emitted.{Emitted}
+use Rattle.emit.specs.declared.emit.Emitted.{Emitted}
+use Rattle.forms.specs.Forms.{plainForm, canForm}
+use Rattle.forms.proofs.Forming.{form-length}
 use Rattle.host.specs.declared.reader.Read.the-variants.{Line, Refused}
 use Rattle.host.specs.declared.reader.ReadText.{ReadText}
 use Rattle.host.specs.declared.writer.Refusal.the-variants as refusals
 use Rattle.host.specs.declared.writer.Written.{Written}
-use Rattle.host.specs.Forms.{plainForm, canForm}
 use Rattle.host.specs.Frames.{isEnded, frameOf}
 use Rattle.host.specs.Reads.{headGuess, guessed, textPlace, textAt, readLine}
 use Rattle.host.specs.Writes.{refusalOf, writtenLine, writtenBuffer}
 use Rattle.host.proofs.Branches.{spaced-branch, plain-branch}
 use Rattle.host.proofs.Confirming.{framed-confirms}
-use Rattle.host.proofs.Forming.{form-length}
 use Rattle.host.proofs.Inverse.{refused-exactly}
 use Rattle.line.specs.Judging.{beforeSpace}
 

@@ -1,4 +1,3 @@
-pub mod Forms
 pub mod Frames
 pub mod Reads
 pub mod Writes

@@ -14,10 +14,10 @@ use Rattle.answer.specs.declared.answer.Error.the-variants.{Syntax, Transmissio
 use Rattle.answer.specs.declared.answer.Head.{Head}
 use Rattle.answer.specs.declared.answer.Status.{Status}
 use Rattle.answer.specs.declared.answer.Status.the-variants.{A, B, S, D, I, L, Over, Under}
+use Rattle.forms.specs.Forms.{canForm, isIdentity}
 use Rattle.host.specs.declared.reader.Read.{Read}
 use Rattle.host.specs.declared.reader.Read.the-variants as reads
 use Rattle.host.specs.declared.reader.ReadText.{ReadText}
-use Rattle.host.specs.Forms.{canForm, isIdentity}
 use Rattle.line.specs.Judging.{beforeSpace, hasSpace}
 use Rattle.text.specs.Ascii.{sameText}
 use Rattle.text.specs.Reading.{readField}

@@ -4,14 +4,15 @@ use Prim.Native.Nat.{ℕ}
 use mathlib.Core.Bool.{cond}
 use mathlib.Core.List.{List}
 use lib.ListN.{length}
-use Rattle.answer.specs.Lines.{lineOf, fitsRoom, laidIn}
+use Rattle.answer.specs.Lines.{lineOf}
+use Rattle.emit.specs.Rooms.{fitsRoom, laidIn}
 use Rattle.answer.specs.declared.answer.Answer.{Answer}
+use Rattle.forms.specs.Forms.{canForm}
 use Rattle.host.specs.declared.reader.Read.{Read}
 use Rattle.host.specs.declared.reader.Read.the-variants as reads
 use Rattle.host.specs.declared.writer.Refusal.{Refusal}
 use Rattle.host.specs.declared.writer.Refusal.the-variants as refusals
 use Rattle.host.specs.declared.writer.Written.{Written}
-use Rattle.host.specs.Forms.{canForm}
 
 -- the paper's numbers
 abbrev pub numberOfRefusal : Refusal → ℕ

@@ -1,13 +1,11 @@
 // The host's reader and writer of answer lines.
 // The programs above use the promises of the functions named here and the laws of proofs/.
-mod forms;
 mod frame;
 mod guess;
 mod reader;
 mod scan;
 mod writer;
 
-pub use forms::can_form;
 pub use reader::Read;
 pub use reader::ReadText;
 pub use reader::read_line;

@@ -4,8 +4,6 @@ ghost use Prim.Native.Nat.{_+_, _≤_};
 ghost use lib.ListN.{length};
 ghost use Rattle.host.specs.Reads.{textPlace, readLine};
 ghost use Rattle.line.specs.Judging.{beforeSpace};
-use crate::forms::can_form;
-use crate::forms::plain_form;
 use crate::frame::is_ended;
 use crate::frame::is_framed;
 use crate::guess::guess_answer;
@@ -15,6 +13,8 @@ use crate::scan::name_length;
 use crate::scan::part;
 use answer::Answer;
 use answer::find_command;
+use forms::can_form;
+use forms::plain_form;
 
 // No line that can be formed is longer: I2 with a text of 40 bytes.
 const LONGEST: usize = 49;
@@ -31,28 +31,24 @@ pub enum Read {
     Refused,
 }
 
-fn no_text() -> ReadText
-    ensures { λ r. ⌜ r ≡ record { start = 0; len = 0 } ⌝ }
-{
-    ReadText { start: 0, len: 0 }
-}
+const NO_TEXT: ReadText = ReadText { start: 0, len: 0 };
 
 // Between the quotes of I2 to I5.
 fn text_place(answer: Answer, line: &[u8]) -> ReadText
     ensures { λ r. ⌜ r ≡ textPlace answer (now (line .entry)) ⌝ }
 {
     match answer {
-        Answer::Nothing => no_text(),
-        Answer::Plain(_) => no_text(),
-        Answer::Weight(_, _) => no_text(),
-        Answer::Refused(_) => no_text(),
+        Answer::Nothing => NO_TEXT,
+        Answer::Plain(_) => NO_TEXT,
+        Answer::Weight(_, _) => NO_TEXT,
+        Answer::Refused(_) => NO_TEXT,
         Answer::Text(_) => ReadText {
             start: 6,
             len: left(line.len(), 9),
         },
-        Answer::Listed(_, _) => no_text(),
-        Answer::CommandList => no_text(),
-        Answer::Versions => no_text(),
+        Answer::Listed(_, _) => NO_TEXT,
+        Answer::CommandList => NO_TEXT,
+        Answer::Versions => NO_TEXT,
     }
 }
 
@@ -65,9 +61,8 @@ fn read_plain(line: &[u8], name: usize) -> Read
 {
     let command = find_command(&line[..name]);
     let head = head_guess(line, name, command);
-    let status = head.status;
-    if is_ended(line) & plain_form(head.identification, status) {
-        return Read::Line(Answer::Plain(head), no_text());
+    if is_ended(line) & plain_form(head) {
+        return Read::Line(Answer::Plain(head), NO_TEXT);
     }
     Read::Refused
 }

@@ -1,9 +1,9 @@
 // Writes the line of an answer.
 ghost use mathlib.Core.Path.{_≡_};
 ghost use Rattle.host.specs.Writes.{writtenLine, writtenBuffer};
-use crate::forms::can_form;
 use answer::Answer;
-use answer::emit_answer;
+use emit::emit_answer;
+use forms::can_form;
 
 // Document 01's refusal numbers 3 and 4; 0 is no refusal.
 pub enum Refusal {

@@ -21,9 +21,6 @@ is-ended-requires c κs = search needs
 plain-form-requires : tie.Need-plain-form-requires
 plain-form-requires c κs = search needs
 
-no-text-requires : tie.Need-no-text-requires
-no-text-requires c κs = search needs
-
 returns : tie.Need-returns
 returns c = search (needs, plain-read)
 
@@ -39,6 +36,5 @@ read-plain-spec =
     head-guess-requires
     is-ended-requires
     plain-form-requires
-    no-text-requires
     returns
     returns-2)

@@ -1,0 +1,5 @@
+mod Laying
+mod Lines
+mod Listing
+mod Rooms
+mod Units

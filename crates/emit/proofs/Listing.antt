@@ -1,0 +1,51 @@
+-- The lines of I0, up to a command and from it on.
+-- Assumes nothing.
+use mathlib.Core.Path.{_≡_, refl, sym, ap, _∙_}
+use mathlib.Core.Bool.{Bool, true, false}
+use mathlib.Core.List.{List, [], _++_, append-assoc, append-nil}
+use Prim.Native.Nat.{ℕ, zero, suc, _+_, _-_, _≤_, _<_}
+use native.Mathlib.Omega.{arith}
+use native.Mathlib.Numerals.{add-one}
+use borrow.Author.Tests.{eq-eqb, ne-eqb, eqb-true, eqb-false}
+use lib.Dec.{eqb}
+use lib.ListN.{length}
+use Rattle.answer.specs.Lines.{listedLine, listedFrom}
+use Rattle.emit.proofs.Laying.{Laid, laid-laid, laid-as, room-2-of-3}
+
+-- the lines before command c
+unfoldable pub listedTo : ℕ → List ℕ
+listedTo zero = []
+listedTo (suc c) = listedTo c ++ listedLine (eqb c 17) c
+
+-- the last command is the one after which none is left
+last-by : (b : Bool) (c n : ℕ) → suc c + n ≡ 18 → eqb c 17 ≡ b → eqb c 17 ≡ eqb n 0
+last-by true c n h e = e ∙ sym (eq-eqb n 0 (omega (arith, eqb-true c 17 e)))
+last-by false c n h e = e ∙ sym (ne-eqb n 0 (λ z. eqb-false c 17 e (omega arith)))
+
+-- the lines before a command and those from it on are all
+pub listed-split : (c n : ℕ) → c + n ≡ 18 → listedTo c ++ listedFrom n c ≡ listedFrom 18 0
+unfolding listedTo listedFrom
+listed-split zero n h =
+    let all : n ≡ 18 = omega arith in
+    ap (λ (k : ℕ). listedFrom k 0) all
+listed-split (suc c) n h =
+    append-assoc (listedTo c) (listedLine (eqb c 17) c) (listedFrom n (suc c))
+    ∙ ap (λ (b : Bool). listedTo c ++ (listedLine b c ++ listedFrom n (suc c))) (last-by (eqb c 17) c n h refl)
+    ∙ listed-split c (suc n) (omega arith)
+
+-- ---- the loop that lays them: what stands is the lines before c
+
+module _ (d : List ℕ) (a c : ℕ) {e : List ℕ} {b : ℕ} (l : Laid d a e b (listedTo c)) where
+  pub line-room : c < 18 → a + length (listedFrom 18 0) ≤ length d → b + length (listedLine (eqb c 17) c) ≤ length e
+  unfolding listedTo
+  line-room h r =
+      room-2-of-3 d a (listedTo c) (listedLine (eqb c 17) c) (listedFrom (17 - c) (suc c)) (listedFrom 18 0)
+      (listed-split (suc c) (17 - c) (omega arith)) l r
+
+  pub line-more : {f : List ℕ} {g : ℕ} → Laid e b f g (listedLine (eqb c 17) c) → Laid d a f g (listedTo (c + 1))
+  unfolding listedTo
+  line-more m = laid-laid d a (listedTo c) (listedLine (eqb c 17) c) (listedTo (c + 1)) (rw (add-one c)) l m
+
+  pub line-last : c ≡ 18 → Laid d a e b (listedFrom 18 0)
+  unfolding listedFrom
+  line-last h = laid-as d a (ap listedTo h ∙ sym (append-nil (listedTo 18)) ∙ listed-split 18 0 refl) l

@@ -1,0 +1,92 @@
+-- What a form's test says of the command's place.
+-- Assumes nothing.
+use mathlib.Core.Path.{_≡_, refl}
+use mathlib.Core.Logic.{⊎-elim}
+use mathlib.Core.Bool.{Bool, true, not, _&&_, _||_}
+use Prim.Native.Nat.{ℕ, zero, suc, _≤_, _<_}
+use native.Mathlib.Nat.{eq-or-lt-of-le, le-of-suc-le-suc, not-suc-le-zero}
+use native.Mathlib.Omega.{arith}
+use borrow.Author.Tests.{eqb-true, leb-true, ltb-true}
+use lib.Dec.{eqb, leb, ltb, lit≤, lit<}
+use lib.ListN.{length}
+use Rattle.answer.specs.Commands.{nameOf}
+use Rattle.answer.specs.declared.answer.Status.{Status}
+use Rattle.answer.specs.declared.answer.Status.the-variants.{A, B, S, D, I, L, Over, Under}
+use Rattle.forms.specs.Forms.{isS, isZ, isZI, isD, isDW, isT, isTA, isTAC, isTI, isIdentification, isIdentity, plainForm, weightForm}
+use Rattle.line.specs.Judging.{isSI, isSIR, isReset}
+use Rattle.weight.proofs.Allowed.{both-left, both-right, either-holds}
+
+-- ---- a place that is one of some
+
+-- what holds of each of two, holds of either
+either : {P : Type 0} (a b : Bool) → (a ≡ true → P) → (b ≡ true → P) → a || b ≡ true → P
+either a b p q e = ⊎-elim p q (either-holds a b e)
+
+-- a known place is one of the 18
+known : (c k : ℕ) → k < 18 → eqb c k ≡ true → c < 18
+known c k h e = let s = eqb-true c k e in omega arith
+
+-- S, Z, ZI, T, TI
+signed-place : (c : ℕ) → isS c || isZ c || isZI c || isT c || isTI c ≡ true → c < 18
+signed-place c =
+    either (isS c || isZ c || isZI c || isT c) (isTI c)
+    (either (isS c || isZ c || isZI c) (isT c)
+    (either (isS c || isZ c) (isZI c) (either (isS c) (isZ c) (known c 6 (lit< tt)) (known c 9 (lit< tt))) (known c 10 (lit< tt)))
+    (known c 14 (lit< tt)))
+    (known c 17 (lit< tt))
+
+-- Z, TAC, D, DW
+done-place : (c : ℕ) → isZ c || isTAC c || isD c || isDW c ≡ true → c < 18
+done-place c =
+    either (isZ c || isTAC c || isD c) (isDW c)
+    (either (isZ c || isTAC c) (isD c) (either (isZ c) (isTAC c) (known c 9 (lit< tt)) (known c 16 (lit< tt))) (known c 12 (lit< tt)))
+    (known c 13 (lit< tt))
+
+pub plain-place : (c : ℕ) (s : Status) → plainForm c s ≡ true → c < 18
+plain-place c A e = done-place c e
+plain-place c B e = let z : _≡_ {A = ℕ} 0 1 = cc in absurd (omega arith)
+plain-place c S e = known c 10 (lit< tt) e
+plain-place c D e = known c 10 (lit< tt) e
+plain-place c I e = ltb-true c 18 (both-left (ltb c 18) (not (isSI c || isSIR c)) (both-left (isIdentification c) (not (isReset c)) e))
+plain-place c L e = either (isD c) (isTA c) (known c 12 (lit< tt)) (known c 15 (lit< tt)) e
+plain-place c Over e = signed-place c e
+plain-place c Under e = signed-place c e
+
+-- no weight follows I0 to I5
+heavy : (c k : ℕ) → 6 ≤ k → k < 18 → eqb c k ≡ true → (6 ≤ c) × (c < 18)
+heavy c k l h e = let s = eqb-true c k e in (omega arith, omega arith)
+
+pub weight-place : (c : ℕ) (s : Status) → weightForm c s ≡ true → (6 ≤ c) × (c < 18)
+weight-place c A e = heavy c 15 (lit≤ tt) (lit< tt) e
+weight-place c B e = let z : _≡_ {A = ℕ} 0 1 = cc in absurd (omega arith)
+weight-place c S e =
+    either (isS c || isT c) (isTI c)
+    (either (isS c) (isT c) (heavy c 6 (lit≤ tt) (lit< tt)) (heavy c 14 (lit≤ tt) (lit< tt)))
+    (heavy c 17 (lit≤ tt) (lit< tt)) e
+weight-place c D e = either (isS c) (isTI c) (heavy c 6 (lit≤ tt) (lit< tt)) (heavy c 17 (lit≤ tt) (lit< tt)) e
+weight-place c I e = let z : _≡_ {A = ℕ} 0 1 = cc in absurd (omega arith)
+weight-place c L e = let z : _≡_ {A = ℕ} 0 1 = cc in absurd (omega arith)
+weight-place c Over e = let z : _≡_ {A = ℕ} 0 1 = cc in absurd (omega arith)
+weight-place c Under e = let z : _≡_ {A = ℕ} 0 1 = cc in absurd (omega arith)
+
+-- ---- I2 to I5
+
+pub identity-place : (c : ℕ) → isIdentity c ≡ true → (2 ≤ c) × (c ≤ 5)
+identity-place c e = (leb-true 2 c (both-left (leb 2 c) (leb c 5) e), leb-true c 5 (both-right (leb 2 c) (leb c 5) e))
+
+-- the test f passes at each number below n
+abbrev below : (ℕ → Bool) → ℕ → Bool
+below f zero = true
+below f (suc n) = f n && below f n
+
+below-at : (f : ℕ → Bool) (n : ℕ) → below f n ≡ true → (c : ℕ) → c < n → f c ≡ true
+below-at f zero t c h = absurd (not-suc-le-zero h)
+below-at f (suc n) t c h =
+    ⊎-elim (λ e. rw e (both-left (f n) (below f n) t)) (λ l. below-at f n (both-right (f n) (below f n) t) c l) (eq-or-lt-of-le (le-of-suc-le-suc h))
+
+-- their names have two characters
+pub identity-width : (c : ℕ) → isIdentity c ≡ true → length (nameOf c) ≡ 2
+identity-width c e =
+    let p = identity-place c e in
+    let two = below-at (λ k. not (isIdentity k) || eqb (length (nameOf k)) 2) 6 refl c (omega arith) in
+    eqb-true (length (nameOf c)) 2 (rw e at two)

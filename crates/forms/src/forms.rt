@@ -1,0 +1,120 @@
+// The answers whose line can be formed.
+ghost use mathlib.Core.Path.{_≡_};
+ghost use mathlib.Core.Bool.{_||_};
+ghost use lib.Signed.{nonNeg};
+ghost use Rattle.forms.specs.Forms.{isS, isZ, isZI, isT, isTI, plainForm, weightForm, numberForm, textForm, canForm};
+use answer::Answer;
+use answer::D;
+use answer::DW;
+use answer::Head;
+use answer::I2;
+use answer::I3;
+use answer::I5;
+use answer::NONE;
+use answer::Number;
+use answer::RESET;
+use answer::S;
+use answer::SI;
+use answer::SIR;
+use answer::Status;
+use answer::T;
+use answer::TA;
+use answer::TAC;
+use answer::TI;
+use answer::Z;
+use answer::ZI;
+use line::is_printable;
+use weight::LastPlaces;
+use weight::fits;
+
+const SHORT_TEXT: usize = 20;
+
+const LONG_TEXT: usize = 40;
+
+// The identifications that + and - follow.
+fn has_limits(command: u8) -> bool
+    ensures { λ r. ⌜ r ≡ (isS command || isZ command || isZI command || isT command || isTI command) ⌝ }
+{
+    (command == S) | (command == Z) | (command == ZI) | (command == T) | (command == TI)
+}
+
+// An identification and a status alone.
+pub fn plain_form(head: Head) -> bool
+    ensures { λ r. ⌜ r ≡ plainForm (head .identification) (head .status) ⌝ }
+{
+    let command = head.identification;
+    let status = head.status;
+    match status {
+        Status::A => (command == Z) | (command == TAC) | (command == D) | (command == DW),
+        Status::B => false,
+        Status::S => command == ZI,
+        Status::D => command == ZI,
+        Status::I => (command < NONE) & !((command == SI) | (command == SIR)) & !(command == RESET),
+        Status::L => (command == D) | (command == TA),
+        Status::Over => has_limits(command),
+        Status::Under => has_limits(command),
+    }
+}
+
+// The heads that a weight follows.
+fn weight_form(head: Head) -> bool
+    ensures { λ r. ⌜ r ≡ weightForm (head .identification) (head .status) ⌝ }
+{
+    let command = head.identification;
+    let status = head.status;
+    match status {
+        Status::A => command == TA,
+        Status::B => false,
+        Status::S => (command == S) | (command == T) | (command == TI),
+        Status::D => (command == S) | (command == TI),
+        Status::I => false,
+        Status::L => false,
+        Status::Over => false,
+        Status::Under => false,
+    }
+}
+
+fn not_below_zero(places: LastPlaces) -> bool
+    ensures { λ r. ⌜ r ≡ nonNeg (places .0) ⌝ }
+{
+    0 <= places.0
+}
+
+// Only a weight of S may be below zero.
+fn number_form(command: u8, number: Number) -> bool
+    ensures { λ r. ⌜ r ≡ numberForm command number ⌝ }
+{
+    let places = number.places;
+    fits(number.decimals, places) & ((command == S) | not_below_zero(places))
+}
+
+// The texts of I2 and I3 may be longer than those of I4 and I5.
+fn text_form(command: u8, text: &[u8]) -> bool
+    ensures { λ r. ⌜ r ≡ textForm command (now (text .entry)) ⌝ }
+{
+    let identity = (I2 <= command) & (command <= I5);
+    let short = (text.len() <= SHORT_TEXT) | ((command <= I3) & (text.len() <= LONG_TEXT));
+    if identity & short {
+        return is_printable(text);
+    }
+    false
+}
+
+// Whether the answer, with `text` beside it, is one line of document 01's list.
+pub fn can_form(answer: Answer, text: &[u8]) -> bool
+    ensures { λ r. ⌜ r ≡ canForm answer (now (text .entry)) ⌝ }
+{
+    let alone = text.len() == 0;
+    match answer {
+        Answer::Nothing => false,
+        Answer::Plain(head) => plain_form(head) & alone,
+        Answer::Weight(head, number) => {
+            weight_form(head) & number_form(head.identification, number) & alone
+        }
+        Answer::Refused(_) => alone,
+        Answer::Text(command) => text_form(command, text),
+        Answer::Listed(_, command) => (command < NONE) & alone,
+        Answer::CommandList => false,
+        Answer::Versions => alone,
+    }
+}

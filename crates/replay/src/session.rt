@@ -1,5 +1,5 @@
 // The module with the profile and the room that are lent to it, and the calls.
-use crate::words::part;
+use crate::words::first;
 use device::Called;
 use device::power_on;
 use device::take_byte;
@@ -52,7 +52,7 @@ pub fn unknown(session: Session) -> Session {
 fn write_outcome(refusal: Refusal, count: usize, out: &[u8]) {
     match refusal {
         Refusal::None => {
-            io::write_all(1, part(out, 0, count));
+            io::write_all(1, first(out, count));
         }
         Refusal::Profile => {
             io::write_all(1, b"refused 1\r\n");
@@ -86,9 +86,7 @@ fn after_call(session: Session, called: Called, out: &[u8]) -> Session {
     next
 }
 
-fn called(session: Session, call: Call, lent: &mut [u8]) -> Called {
-    let profile = session.profile;
-    let state = session.state;
+fn called(profile: Profile, state: State, call: Call, lent: &mut [u8]) -> Called {
     match call {
         Call::On => power_on(profile, state, lent),
         Call::Byte(byte, faulty) => take_byte(profile, state, byte, faulty, lent),
@@ -103,6 +101,8 @@ pub fn make(session: Session, call: Call, out: &mut [u8]) -> Session {
     if out.len() < room {
         return session;
     }
-    let returned = called(session, call, &mut out[start..room]);
+    let profile = session.profile;
+    let state = session.state;
+    let returned = called(profile, state, call, &mut out[start..room]);
     after_call(session, returned, out)
 }

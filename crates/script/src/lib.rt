@@ -1,0 +1,13 @@
+// The script that `replay` plays: what each of its lines asks for.
+// The program above uses the promises of the functions named here.
+mod hex;
+mod number;
+mod order;
+mod profile;
+mod words;
+
+pub use order::Order;
+pub use order::order_of;
+pub use order::sent_byte;
+pub use profile::Numbers;
+pub use profile::with_numbers;

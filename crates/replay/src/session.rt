@@ -49,20 +49,20 @@ pub fn unknown(session: Session) -> Session {
     session
 }
 
+fn write_refused(number: u8) {
+    let mut line = *b"refused 0\r\n";
+    line[8] = number;
+    io::write_all(1, &line);
+}
+
 fn write_outcome(refusal: Refusal, count: usize, out: &[u8]) {
     match refusal {
         Refusal::None => {
             io::write_all(1, first(out, count));
         }
-        Refusal::Profile => {
-            io::write_all(1, b"refused 1\r\n");
-        }
-        Refusal::State => {
-            io::write_all(1, b"refused 2\r\n");
-        }
-        Refusal::Room => {
-            io::write_all(1, b"refused 3\r\n");
-        }
+        Refusal::Profile => write_refused(b'1'),
+        Refusal::State => write_refused(b'2'),
+        Refusal::Room => write_refused(b'3'),
     }
 }
 
@@ -87,11 +87,13 @@ fn after_call(session: Session, called: Called, out: &[u8]) -> Session {
 }
 
 fn called(profile: Profile, state: State, call: Call, lent: &mut [u8]) -> Called {
-    match call {
-        Call::On => power_on(profile, state, lent),
-        Call::Byte(byte, faulty) => take_byte(profile, state, byte, faulty, lent),
-        Call::Sample(load, stable) => take_sample(profile, state, load, stable, lent),
+    if let Call::Byte(byte, faulty) = call {
+        return take_byte(profile, state, byte, faulty, lent);
     }
+    if let Call::Sample(load, stable) = call {
+        return take_sample(profile, state, load, stable, lent);
+    }
+    power_on(profile, state, lent)
 }
 
 // One call, with a buffer of the length that the script says.

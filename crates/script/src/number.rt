@@ -61,7 +61,7 @@ pub fn number(text: &[u8]) -> u64
     digits_value(text)
 }
 
-fn above_zero(size: u64) -> LoadRead
+pub fn above_zero(size: u64) -> LoadRead
     ensures { λ r. ⌜ r ≡ aboveZero size ⌝ }
 {
     if LARGEST_LOAD < size {
@@ -70,7 +70,7 @@ fn above_zero(size: u64) -> LoadRead
     LoadRead::Within(Load(size as i32))
 }
 
-fn below_zero(size: u64) -> LoadRead
+pub fn below_zero(size: u64) -> LoadRead
     ensures { λ r. ⌜ r ≡ belowZero size ⌝ }
 {
     if LARGEST_BELOW_ZERO < size {

@@ -25,6 +25,7 @@ allStand i (c ∷ t) = canStand i c && allStand (suc i) t
 abbrev pub areHex : List ℕ → Bool
 areHex t = eqb (length t % 3) 2 && allStand 0 t
 
+-- 0 where one is no digit
 abbrev pub twoDigits : ℕ → ℕ → ℕ
 twoDigits high low = cond (ltb 15 high) 0 (cond (ltb 15 low) 0 (high * 16 + low))
 

@@ -59,6 +59,7 @@ areNumbers n =
     && inByte (n .decimals)
     && inByte (n .step)
 
+-- 0 where it is none of its width, which the test above refuses
 abbrev pub wordOf : ℕ → ℕ
 wordOf n = cond (inWord n) n 0
 

@@ -1,4 +1,4 @@
--- `script::hex::are_bytes` meets its contract.
+-- `script::hex::are_bytes` meets its contract. The loop's invariant: `good` says whether the bytes passed stand right.
 -- Assumes nothing.
 use Prim.Native.Nat.{_-_}
 use lib.ListN.{length}

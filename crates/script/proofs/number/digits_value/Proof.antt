@@ -1,4 +1,4 @@
--- `script::number::digits_value` meets its contract.
+-- `script::number::digits_value` meets its contract. The loop's invariant: the digits passed stand for `value`.
 -- Assumes nothing.
 use Prim.Native.Nat.{_-_}
 use lib.ListN.{length}

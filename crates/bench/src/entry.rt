@@ -1,5 +1,7 @@
 // What the input line is so far. Nothing of it is kept but a sample's number, so a line may have any length.
-use model::Load;
+use script::LoadRead;
+use script::above_zero;
+use script::below_zero;
 
 pub enum Entry {
     Start,
@@ -22,18 +24,10 @@ pub struct Sample {
     pub size: u64,
 }
 
-// A load, or that there is none within 32 bits.
-pub enum LoadRead {
-    Within(Load),
-    Beyond,
-}
-
 const MOST_DIGITS: u8 = 10;
 
 // More than nine digits say, so that a tenth still fits.
 const MOST_BEFORE_DIGIT: u64 = 1_000_000_000;
-
-const LARGEST_LOAD: u64 = 2_147_483_647;
 
 fn first(byte: u8) -> Entry {
     match byte {
@@ -128,24 +122,6 @@ pub fn is_start(entry: Entry) -> bool {
         Entry::Sample(_) => false,
         Entry::Other => false,
     }
-}
-
-fn above_zero(size: u64) -> LoadRead {
-    if LARGEST_LOAD < size {
-        return LoadRead::Beyond;
-    }
-    LoadRead::Within(Load(size as i32))
-}
-
-// There is one number more below zero than above it.
-fn below_zero(size: u64) -> LoadRead {
-    if size < 1 {
-        return LoadRead::Within(Load(0));
-    }
-    if LARGEST_LOAD < size - 1 {
-        return LoadRead::Beyond;
-    }
-    LoadRead::Within(Load(!((size - 1) as i32)))
 }
 
 pub fn load_of(sample: Sample) -> LoadRead {

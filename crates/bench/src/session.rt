@@ -1,6 +1,5 @@
 // The module and the input line so far. Each answer is written as it comes.
 use crate::entry::Entry;
-use crate::entry::LoadRead;
 use crate::entry::Sample;
 use crate::entry::advanced;
 use crate::entry::is_command;
@@ -13,6 +12,7 @@ use model::Load;
 use model::State;
 use model::start_state;
 use profiles::profile_a;
+use script::LoadRead;
 
 pub struct Session {
     pub state: State,

@@ -15,6 +15,14 @@ fn text(bytes: &[u8]) {
     io::write_all(1, bytes);
 }
 
+fn space() {
+    text(b" ");
+}
+
+fn end() {
+    text(b"\r\n");
+}
+
 // The first `len` bytes.
 fn first(bytes: &[u8], len: usize) -> &[u8] {
     let start = 0;
@@ -36,17 +44,22 @@ fn unit(unit: WeightUnit) {
     text(first(&bytes, named.len));
 }
 
-fn status(status: Status) {
+fn letter(status: Status) -> u8 {
     match status {
-        Status::A => text(b"A"),
-        Status::B => text(b"B"),
-        Status::S => text(b"S"),
-        Status::D => text(b"D"),
-        Status::I => text(b"I"),
-        Status::L => text(b"L"),
-        Status::Over => text(b"+"),
-        Status::Under => text(b"-"),
+        Status::A => b'A',
+        Status::B => b'B',
+        Status::S => b'S',
+        Status::D => b'D',
+        Status::I => b'I',
+        Status::L => b'L',
+        Status::Over => b'+',
+        Status::Under => b'-',
     }
+}
+
+fn status(status: Status) {
+    let byte = [letter(status)];
+    text(&byte);
 }
 
 // What follows the spaces.
@@ -69,28 +82,28 @@ fn whole(places: LastPlaces) {
 }
 
 fn weight(head: Head, number: Number) {
-    let letter = head.status;
+    let given = head.status;
     let places = number.places;
     let measure = number.unit;
     text(b"weight ");
     name(head.identification);
-    text(b" ");
-    status(letter);
-    text(b" ");
+    space();
+    status(given);
+    space();
     whole(places);
-    text(b" ");
+    space();
     io::print_decimal(1, number.decimals as u64);
-    text(b" ");
+    space();
     unit(measure);
-    text(b"\r\n");
+    end();
 }
 
 fn identity(command: u8, bytes: &[u8]) {
     text(b"text ");
     name(command);
-    text(b" ");
+    space();
     text(bytes);
-    text(b"\r\n");
+    end();
 }
 
 fn listed(last: bool, command: u8) {
@@ -101,9 +114,9 @@ fn listed(last: bool, command: u8) {
         text(b"B ");
     }
     io::print_decimal(1, answer::level_of(command) as u64);
-    text(b" ");
+    space();
     name(command);
-    text(b"\r\n");
+    end();
 }
 
 fn other(line: &[u8]) {

@@ -39,43 +39,53 @@ fn copy(from: &[u8], at: usize, to: &mut [u8]) {
     }
 }
 
+fn number_at(bytes: &[u8], at: usize) -> u32 {
+    let four = part(bytes, at, 4);
+    joined(
+        byte_at(four, 0),
+        byte_at(four, 1),
+        byte_at(four, 2),
+        byte_at(four, 3),
+    )
+}
+
+// The length is at `at`, and the text after it.
+fn text40(bytes: &[u8], at: usize) -> Text40 {
+    let given = part(bytes, at, 41);
+    let mut cells = [0u8; 40];
+    copy(given, 1, &mut cells);
+    Text40 {
+        bytes: cells,
+        len: byte_at(given, 0),
+    }
+}
+
+fn text20(bytes: &[u8], at: usize) -> Text20 {
+    let given = part(bytes, at, 21);
+    let mut cells = [0u8; 20];
+    copy(given, 1, &mut cells);
+    Text20 {
+        bytes: cells,
+        len: byte_at(given, 0),
+    }
+}
+
 // The `n`-th of several.
 pub(crate) fn profile_at(profiles: &[u8], n: u32) -> Profile {
-    let mut bytes = [0u8; 144];
-    copy(profiles, n as usize * SIZE, &mut bytes);
-    let mut model = [0u8; 40];
-    copy(&bytes, 20, &mut model);
-    let mut software = [0u8; 40];
-    copy(&bytes, 61, &mut software);
-    let mut serial = [0u8; 20];
-    copy(&bytes, 102, &mut serial);
-    let mut identity = [0u8; 20];
-    copy(&bytes, 123, &mut identity);
+    let bytes = part(profiles, n as usize * SIZE, SIZE);
     Profile {
-        capacity: joined(bytes[0], bytes[1], bytes[2], bytes[3]),
-        underload: joined(bytes[4], bytes[5], bytes[6], bytes[7]),
-        zeroing: joined(bytes[8], bytes[9], bytes[10], bytes[11]),
-        timeout: joined(bytes[12], bytes[13], bytes[14], bytes[15]),
+        capacity: number_at(bytes, 0),
+        underload: number_at(bytes, 4),
+        zeroing: number_at(bytes, 8),
+        timeout: number_at(bytes, 12),
         resolution: Resolution {
-            unit: unit_of(bytes[16]),
-            decimals: bytes[17],
-            step: bytes[18],
+            unit: unit_of(byte_at(bytes, 16)),
+            decimals: byte_at(bytes, 17),
+            step: byte_at(bytes, 18),
         },
-        model: Text40 {
-            bytes: model,
-            len: bytes[19],
-        },
-        software: Text40 {
-            bytes: software,
-            len: bytes[60],
-        },
-        serial: Text20 {
-            bytes: serial,
-            len: bytes[101],
-        },
-        identity: Text20 {
-            bytes: identity,
-            len: bytes[122],
-        },
+        model: text40(bytes, 19),
+        software: text40(bytes, 60),
+        serial: text20(bytes, 101),
+        identity: text20(bytes, 122),
     }
 }

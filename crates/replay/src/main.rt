@@ -1,7 +1,5 @@
 // Plays a script on standard input: each line sets the profile or the room, or calls the module, whose answers are printed as they
 // come. A line ends at LF alone. The README has the words of the script.
-mod hex;
-mod number;
 mod order;
 mod profile;
 mod session;
@@ -11,7 +9,7 @@ use order::perform;
 use session::Session;
 use session::start;
 use session::unknown;
-use words::part;
+use words::first;
 use words::put;
 
 // The line has ended. One that fills the buffer may have lost bytes.
@@ -20,7 +18,7 @@ fn end_line(session: Session, line: &[u8], out: &mut [u8]) -> Session {
     let mut next = session;
     next.held = 0;
     if held < line.len() {
-        return perform(next, part(line, 0, held), out);
+        return perform(next, first(line, held), out);
     }
     unknown(next)
 }

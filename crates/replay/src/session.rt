@@ -1,5 +1,5 @@
 // The module with the profile and the room that are lent to it, and the calls.
-use crate::words::part;
+use crate::words::first;
 use device::Called;
 use device::power_on;
 use device::take_byte;
@@ -49,20 +49,20 @@ pub fn unknown(session: Session) -> Session {
     session
 }
 
+fn write_refused(number: u8) {
+    let mut line = *b"refused 0\r\n";
+    line[8] = number;
+    io::write_all(1, &line);
+}
+
 fn write_outcome(refusal: Refusal, count: usize, out: &[u8]) {
     match refusal {
         Refusal::None => {
-            io::write_all(1, part(out, 0, count));
+            io::write_all(1, first(out, count));
         }
-        Refusal::Profile => {
-            io::write_all(1, b"refused 1\r\n");
-        }
-        Refusal::State => {
-            io::write_all(1, b"refused 2\r\n");
-        }
-        Refusal::Room => {
-            io::write_all(1, b"refused 3\r\n");
-        }
+        Refusal::Profile => write_refused(b'1'),
+        Refusal::State => write_refused(b'2'),
+        Refusal::Room => write_refused(b'3'),
     }
 }
 
@@ -86,14 +86,14 @@ fn after_call(session: Session, called: Called, out: &[u8]) -> Session {
     next
 }
 
-fn called(session: Session, call: Call, lent: &mut [u8]) -> Called {
-    let profile = session.profile;
-    let state = session.state;
-    match call {
-        Call::On => power_on(profile, state, lent),
-        Call::Byte(byte, faulty) => take_byte(profile, state, byte, faulty, lent),
-        Call::Sample(load, stable) => take_sample(profile, state, load, stable, lent),
+fn called(profile: Profile, state: State, call: Call, lent: &mut [u8]) -> Called {
+    if let Call::Byte(byte, faulty) = call {
+        return take_byte(profile, state, byte, faulty, lent);
     }
+    if let Call::Sample(load, stable) = call {
+        return take_sample(profile, state, load, stable, lent);
+    }
+    power_on(profile, state, lent)
 }
 
 // One call, with a buffer of the length that the script says.
@@ -103,6 +103,8 @@ pub fn make(session: Session, call: Call, out: &mut [u8]) -> Session {
     if out.len() < room {
         return session;
     }
-    let returned = called(session, call, &mut out[start..room]);
+    let profile = session.profile;
+    let state = session.state;
+    let returned = called(profile, state, call, &mut out[start..room]);
     after_call(session, returned, out)
 }

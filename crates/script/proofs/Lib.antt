@@ -1,0 +1,5 @@
+mod HexText
+mod Loads
+mod NumberText
+mod Ordering
+mod WordText

@@ -1,0 +1,151 @@
+-- What a line asks for, one law for each way through the code.
+-- Assumes nothing.
+use mathlib.Core.Path.{_≡_, ap, _∙_}
+use mathlib.Core.Bool.{Bool, true, false, _&&_, _||_}
+use mathlib.Core.List.{List}
+use Prim.Native.Nat.{ℕ, _+_, _/_, _≤_, _<_}
+use lib.Dec.{leb, ltb, eqb}
+use lib.ListN.{length, getD, drop}
+use borrow.Author.Tests.{eq-eqb, ne-eqb, lt-ltb, le-ltb}
+use Rattle.weight.specs.Ascii.{space}
+use Rattle.text.specs.Ascii.{ascii, sameText}
+use Rattle.text.specs.Searching.{FirstAt}
+use Rattle.script.specs.declared.number.LoadRead.{LoadRead}
+use Rattle.script.specs.declared.order.Order.{Order}
+use Rattle.script.specs.declared.order.Order.the-variants as orders
+use Rattle.script.specs.declared.profile.Numbers.{Numbers}
+use Rattle.script.specs.Hex.{areHex, hexByte}
+use Rattle.script.specs.Numbers.{numberOf, loadOf}
+use Rattle.script.specs.Orders.{setOrder, numbersOrder, textOrder, roomOrder, hexOrder, loadOrder, callOrder, namedOrder, orderOf, commandByte, sentByte}
+use Rattle.script.specs.Settings.{numbersIn, areNumbers, roomOf, textFits}
+use Rattle.script.specs.Words.{firstWord, afterWord}
+
+-- ---- the room of a text, and whether it fits
+
+module _ (w : ℕ) where
+  pub room-forty : (eqb w 50 || eqb w 51) ≡ true → 40 ≡ roomOf w
+  room-forty e = rw e
+
+  pub room-twenty : (eqb w 50 || eqb w 51) ≡ false → (eqb w 52 || eqb w 53) ≡ true → 20 ≡ roomOf w
+  room-twenty n e = rw (n, e)
+
+  pub no-room : (eqb w 50 || eqb w 51) ≡ false → (eqb w 52 || eqb w 53) ≡ false → 0 ≡ roomOf w
+  no-room n e = rw (n, e)
+
+pub fits-is : (t : List ℕ) {w s room : ℕ} {u : List ℕ} → w ≡ getD t 0 0 → s ≡ getD t 1 0 → room ≡ roomOf w → u ≡ drop 2 t →
+    (leb 50 w && leb w 53 && eqb s space && leb (length u) room) ≡ textFits t
+fits-is t which gap room rest = rw (room, which, gap, rest)
+
+-- ---- the lines that set
+
+module _ (t : List ℕ) where
+  module _ {n : Numbers} {b : Bool} (read : n ≡ numbersIn t) (test : b ≡ areNumbers n) where
+    pub numbers-read : b ≡ true → orders.Numbers n ≡ numbersOrder t
+    numbers-read e =
+        let chosen : orders.Numbers n ≡ setOrder n = rw (← test, e) in
+        chosen ∙ ap setOrder read
+
+    pub no-numbers : b ≡ false → orders.Unknown ≡ numbersOrder t
+    no-numbers e =
+        let chosen : orders.Unknown ≡ setOrder n = rw (← test, e) in
+        chosen ∙ ap setOrder read
+
+  module _ {b : Bool} (test : b ≡ textFits t) where
+    pub text-fits : b ≡ true → orders.Text ≡ textOrder t
+    text-fits e = rw (← test, e)
+
+    pub no-text : b ≡ false → orders.Unknown ≡ textOrder t
+    no-text e = rw (← test, e)
+
+  module _ {n : ℕ} (read : n ≡ numberOf t) where
+    pub room-large : 1024 < n → orders.Unknown ≡ roomOrder t
+    room-large h = rw (← read, lt-ltb 1024 n h)
+
+    pub room-small : n ≤ 1024 → orders.Room n ≡ roomOrder t
+    room-small h = rw (← read, le-ltb 1024 n h)
+
+  module _ (faulty : Bool) {b : Bool} (test : b ≡ areHex t) where
+    pub hex-read : b ≡ true → orders.Bytes (length t / 3 + 1) faulty ≡ hexOrder faulty t
+    hex-read e = rw (← test, e)
+
+    pub no-hex : b ≡ false → orders.Unknown ≡ hexOrder faulty t
+    no-hex e = rw (← test, e)
+
+-- ---- the bytes of a command
+
+module _ (t : List ℕ) (i : ℕ) where
+  pub own-byte : i < length t → getD t i 0 ≡ commandByte t i
+  own-byte h = rw (lt-ltb i (length t) h)
+
+  pub return-byte : length t ≤ i → i ≡ length t → 13 ≡ commandByte t i
+  return-byte h e = rw (le-ltb i (length t) h, eq-eqb i (length t) e)
+
+  pub feed-byte : length t ≤ i → (i ≡ length t → ⊥) → 10 ≡ commandByte t i
+  feed-byte h n = rw (le-ltb i (length t) h, ne-eqb i (length t) n)
+
+-- ---- the lines that call, by their first byte b; u is what follows the space
+
+module _ (l : List ℕ) {b : ℕ} {u : List ℕ} (first : b ≡ getD l 0 0) (rest : u ≡ drop 2 l) where
+  module _ {r : Order} where
+    pub good-bytes : b ≡ 98 → r ≡ hexOrder false u → r ≡ callOrder l
+    good-bytes e order = rw (← first, ← rest, e) order
+
+    pub faulty-bytes : b ≡ 102 → r ≡ hexOrder true u → r ≡ callOrder l
+    faulty-bytes e order = rw (← first, ← rest, e) order
+
+    pub stable-sample : {read : LoadRead} → b ≡ 115 → read ≡ loadOf u → r ≡ loadOrder true read → r ≡ callOrder l
+    stable-sample e load order = rw (← first, ← rest, e, ← load) order
+
+    pub unstable-sample : {read : LoadRead} → b ≡ 117 → read ≡ loadOf u → r ≡ loadOrder false read → r ≡ callOrder l
+    unstable-sample e load order = rw (← first, ← rest, e, ← load) order
+
+  pub command-line : b ≡ 62 → orders.Bytes (length l) false ≡ callOrder l
+  command-line e = rw (← first, e)
+
+  pub no-call : (b ≡ 98 → ⊥) → (b ≡ 102 → ⊥) → (b ≡ 62 → ⊥) → (b ≡ 115 → ⊥) → (b ≡ 117 → ⊥) → orders.Unknown ≡ callOrder l
+  no-call n1 n2 n3 n4 n5 = rw (← first, ne-eqb b 98 n1, ne-eqb b 102 n2, ne-eqb b 62 n3, ne-eqb b 115 n4, ne-eqb b 117 n5)
+
+  module _ (i : ℕ) {c : ℕ} where
+    pub command-sent : b ≡ 62 → c ≡ commandByte u i → c ≡ sentByte l i
+    command-sent e sent = rw (← first, ← rest, e) sent
+
+    pub hex-sent : (b ≡ 62 → ⊥) → c ≡ hexByte u i → c ≡ sentByte l i
+    hex-sent n sent = rw (← first, ← rest, ne-eqb b 62 n) sent
+
+-- ---- by the first word w; u is what follows it
+
+module _ (on : Bool) (l : List ℕ) {w u : List ℕ} (name : w ≡ firstWord l) (rest : u ≡ afterWord l) {p : Bool} (profile : p ≡ sameText w (ascii "profile")) {r : Order} where
+  pub profile-line : p ≡ true → r ≡ numbersOrder u → r ≡ namedOrder on l
+  profile-line e order = rw (← name, ← rest, ← profile, e) order
+
+  module _ (no-profile : p ≡ false) {t : Bool} (text : t ≡ sameText w (ascii "text")) where
+    pub text-line : t ≡ true → r ≡ textOrder u → r ≡ namedOrder on l
+    text-line e order = rw (← name, ← rest, ← profile, no-profile, ← text, e) order
+
+    module _ (no-text : t ≡ false) {m : Bool} (room : m ≡ sameText w (ascii "room")) where
+      pub room-line : m ≡ true → r ≡ roomOrder u → r ≡ namedOrder on l
+      room-line e order = rw (← name, ← rest, ← profile, no-profile, ← text, no-text, ← room, e) order
+
+      module _ (no-room : m ≡ false) where
+        pub call-line : (on && eqb (length w) 1) ≡ true → r ≡ callOrder l → r ≡ namedOrder on l
+        call-line e order = rw (← name, ← rest, ← profile, no-profile, ← text, no-text, ← room, no-room, e) order
+
+        pub no-line : (on && eqb (length w) 1) ≡ false → r ≡ orders.Unknown → r ≡ namedOrder on l
+        no-line e order = rw (← name, ← rest, ← profile, no-profile, ← text, no-text, ← room, no-room, e) order
+
+-- ---- any line
+
+module _ (on : Bool) (l : List ℕ) {b : ℕ} (first : b ≡ getD l 0 0) where
+  pub passed-over : (ltb (length l) 1 || eqb b 35) ≡ true → orders.Nothing ≡ orderOf on l
+  passed-over e = rw (← first, e)
+
+  module _ (not-passed : (ltb (length l) 1 || eqb b 35) ≡ false) {p : Bool} (power : p ≡ sameText l (ascii "on")) where
+    pub power-line : p ≡ true → orders.On ≡ orderOf on l
+    power-line e = rw (← first, not-passed, ← power, e)
+
+    module _ (no-power : p ≡ false) {i : ℕ} (at : FirstAt space l i) where
+      pub worded-line : {r : Order} → i < length l → r ≡ namedOrder on l → r ≡ orderOf on l
+      worded-line h order = order ∙ (rw (← first, not-passed, ← power, no-power, ← (at .has), lt-ltb i (length l) h))
+
+      pub one-word : length l ≤ i → orders.Unknown ≡ orderOf on l
+      one-word h = rw (← first, not-passed, ← power, no-power, ← (at .has), le-ltb i (length l) h)

@@ -1,0 +1,47 @@
+-- `script::order::order_of` meets its contract.
+-- Assumes nothing.
+use borrow.Author.Needs.{needs}
+use Rattle.script.proofs.Ordering.{one-word, passed-over, power-line, worded-line}
+use Rattle.script.proofs.order.order_of.Statement.{statement}
+use Rattle.script.proofs.order.order_of.Tie as tie
+
+byte-at-requires : tie.Need-byte-at-requires
+byte-at-requires c κs = search needs
+
+returns : tie.Need-returns
+returns c = search (needs, passed-over)
+
+slice-aggregate-same-text : tie.Need-slice-aggregate-same-text
+slice-aggregate-same-text c = search needs
+
+same-text-requires : tie.Need-same-text-requires
+same-text-requires c κs = search needs
+
+returns-2 : tie.Need-returns-2
+returns-2 c = search (needs, power-line)
+
+first-at-requires : tie.Need-first-at-requires
+first-at-requires c κs = search needs
+
+named-order-requires : tie.Need-named-order-requires
+named-order-requires c κs = search needs
+
+returns-3 : tie.Need-returns-3
+returns-3 c = search (needs, worded-line)
+
+returns-4 : tie.Need-returns-4
+returns-4 c = search (needs, one-word)
+
+pub order-of-spec : {M : Type 1} → statement M
+order-of-spec =
+    tie.close
+    (tie.spec
+    byte-at-requires
+    returns
+    slice-aggregate-same-text
+    same-text-requires
+    returns-2
+    first-at-requires
+    named-order-requires
+    returns-3
+    returns-4)

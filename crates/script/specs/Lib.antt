@@ -1,0 +1,5 @@
+pub mod Hex
+pub mod Numbers
+pub mod Orders
+pub mod Settings
+pub mod Words

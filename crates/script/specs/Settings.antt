@@ -1,0 +1,96 @@
+-- What a line of the script sets in the profile.
+-- Assumes nothing.
+use Prim.Native.Nat.{ℕ}
+use mathlib.Core.Bool.{Bool, true, false, cond, _&&_, _||_}
+use mathlib.Core.List.{List}
+use lib.Dec.{leb, eqb}
+use lib.ListN.{length, getD, drop}
+use Rattle.model.specs.declared.profile.Profile.{Profile}
+use Rattle.weight.specs.declared.units.WeightUnit.{WeightUnit}
+use Rattle.weight.specs.declared.units.WeightUnit.the-variants.{G}
+use Rattle.text.specs.declared.units.UnitRead.{UnitRead}
+use Rattle.text.specs.declared.units.UnitRead.the-variants.{Named, Unknown}
+use Rattle.weight.specs.Ascii.{space}
+use Rattle.text.specs.Units.{unitNamed}
+use Rattle.script.specs.declared.profile.Numbers.{Numbers}
+use Rattle.script.specs.Numbers.{numberOf}
+use Rattle.script.specs.Words.{firstWord, afterWords}
+
+-- ---- the numbers
+
+abbrev pub numberAt : ℕ → List ℕ → ℕ
+numberAt n t = numberOf (firstWord (afterWords n t))
+
+-- C, U, R, W, the unit, D and K; the last is all that is left
+abbrev pub numbersIn : List ℕ → Numbers
+numbersIn t =
+    record {
+      capacity = numberAt 0 t;
+      underload = numberAt 1 t;
+      zeroing = numberAt 2 t;
+      timeout = numberAt 3 t;
+      unit = unitNamed (firstWord (afterWords 4 t));
+      decimals = numberAt 5 t;
+      step = numberOf (afterWords 6 t);
+    }
+
+abbrev pub isNamed : UnitRead → Bool
+isNamed (Named u) = true
+isNamed Unknown = false
+
+abbrev pub namedUnit : UnitRead → WeightUnit
+namedUnit (Named u) = u
+namedUnit Unknown = G
+
+abbrev pub inWord : ℕ → Bool
+inWord n = leb n 4_294_967_295
+
+abbrev pub inByte : ℕ → Bool
+inByte n = leb n 255
+
+-- each is a number of its width
+abbrev pub areNumbers : Numbers → Bool
+areNumbers n =
+    inWord (n .capacity)
+    && inWord (n .underload)
+    && inWord (n .zeroing)
+    && inWord (n .timeout)
+    && isNamed (n .unit)
+    && inByte (n .decimals)
+    && inByte (n .step)
+
+-- 0 where it is none of its width, which the test above refuses
+abbrev pub wordOf : ℕ → ℕ
+wordOf n = cond (inWord n) n 0
+
+abbrev pub byteOf : ℕ → ℕ
+byteOf n = cond (inByte n) n 0
+
+-- the profile with these numbers and its own texts
+abbrev pub withNumbers : Profile → Numbers → Profile
+withNumbers p n =
+    record {
+      capacity = wordOf (n .capacity);
+      underload = wordOf (n .underload);
+      zeroing = wordOf (n .zeroing);
+      timeout = wordOf (n .timeout);
+      resolution = record { unit = namedUnit (n .unit); decimals = byteOf (n .decimals); step = byteOf (n .step) };
+      model = p .model;
+      software = p .software;
+      serial = p .serial;
+      identity = p .identity;
+    }
+
+-- ---- the texts
+
+-- how many bytes the text of I2 to I5 holds: 50 is "2"
+abbrev pub roomOf : ℕ → ℕ
+roomOf which = cond (eqb which 50 || eqb which 51) 40 (cond (eqb which 52 || eqb which 53) 20 0)
+
+-- a digit from 2 to 5, a space, and what the text holds
+abbrev pub textFits : List ℕ → Bool
+textFits t =
+    leb 50 (getD t 0 0)
+    && leb (getD t 0 0) 53
+    && eqb (getD t 1 0) space
+    && leb (length (drop 2 t)) (roomOf (getD t 0 0))

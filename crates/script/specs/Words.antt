@@ -1,0 +1,19 @@
+-- The words of a line, with one space between them.
+-- Assumes nothing.
+use Prim.Native.Nat.{ℕ, zero, suc}
+use mathlib.Core.List.{List}
+use Rattle.weight.specs.Ascii.{space}
+use Rattle.text.specs.Searching.{beforeFirst, afterFirst}
+
+-- all of the line where there is no space
+abbrev pub firstWord : List ℕ → List ℕ
+firstWord t = beforeFirst space t
+
+-- what follows the first space; nothing where there is none
+abbrev pub afterWord : List ℕ → List ℕ
+afterWord t = afterFirst space t
+
+-- what follows n words and a space after each
+abbrev pub afterWords : ℕ → List ℕ → List ℕ
+afterWords zero t = t
+afterWords (suc n) t = afterWords n (afterWord t)

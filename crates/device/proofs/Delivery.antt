@@ -1,7 +1,7 @@
 -- The text that goes with an answer, and what a call returns by the room for it.
 -- Assumes nothing.
 use mathlib.Core.Path.{_≡_, refl, sym, ap, _∙_}
-use mathlib.Core.Bool.{Bool, true, false}
+use mathlib.Core.Bool.{Bool, true, false, _&&_}
 use mathlib.Core.List.{List, []}
 use Prim.Native.Nat.{ℕ, _≤_}
 use native.Mathlib.Omega.{arith}
@@ -14,8 +14,6 @@ use Rattle.answer.specs.declared.answer.Answer.{Answer}
 use Rattle.answer.specs.declared.answer.Answer.the-variants.{Nothing}
 use Rattle.emit.specs.declared.emit.Emitted.{Emitted}
 use Rattle.model.specs.declared.profile.Profile.{Profile}
-use Rattle.model.specs.declared.profile.Text20.{Text20}
-use Rattle.model.specs.declared.profile.Text40.{Text40}
 use Rattle.waiting.specs.declared.react.Reaction.{Reaction}
 use Rattle.model.specs.declared.refusal.Refusal.the-variants as refusals
 use Rattle.model.specs.declared.state.State.{State}
@@ -23,7 +21,7 @@ use Rattle.waiting.specs.Waits.{reaction}
 use Rattle.device.specs.Calls.{identityIn, answerBytes, refusedCall, takenCall, delivered}
 use Rattle.line.specs.Judging.{isPrintable}
 use Rattle.weight.proofs.Allowed.{both-left}
-use Rattle.model.specs.Profiles.{identityText, textOf20, textOf40, textAllowed20, textAllowed40}
+use Rattle.model.specs.Profiles.{identityText, textOf20, textOf40}
 
 module _ (p : Profile) (a : Answer) where
   bytes-with : (t : List ℕ) → identityText p (identityIn a) ≡ t → answerBytes p a ≡ lineOf a t
@@ -78,8 +76,5 @@ unfolding delivered answerBytes lineOf laidIn
 delivered-nothing p s t room = rw (le-leb 0 (length room) (omega arith))
 
 -- an allowed text is no longer than its cells
-pub short20 : (t : Text20) → textAllowed20 t ≡ true → t .len ≤ 20
-short20 t e = leb-true (t .len) 20 (both-left (leb (t .len) 20) (isPrintable (textOf20 t)) e)
-
-pub short40 : (t : Text40) → textAllowed40 t ≡ true → t .len ≤ 40
-short40 t e = leb-true (t .len) 40 (both-left (leb (t .len) 40) (isPrintable (textOf40 t)) e)
+pub short : (limit len : ℕ) (t : List ℕ) → (leb len limit && isPrintable t) ≡ true → len ≤ limit
+short limit len t e = leb-true len limit (both-left (leb len limit) (isPrintable t) e)

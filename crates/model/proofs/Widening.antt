@@ -3,26 +3,18 @@
 use mathlib.Core.Path.{_≡_}
 use Prim.Native.Nat.{ℕ, _<_, _^_}
 use native.Mathlib.Omega.{arith}
-use lib.IntN.{ℤ, pos, negℤ, _-ℤ_, +ℤ-idl}
+use lib.IntN.{ℤ, pos}
 use mir.Syntax.{w32, w64}
 use mir.Val.{Fits, SFits, toZ, ofZ}
 use mir.Facts.{toZ-ofZ, toZ-pos, sfits-widen, fits-lt-pow}
-use Rattle.weight.proofs.Machine.{opposite-fits}
 
 -- a count of 32 bits is below half of what 64 bits hold
-count-small : {n : ℕ} → Fits w32 n → n < 2 ^ 63
+pub count-small : {n : ℕ} → Fits w32 n → n < 2 ^ 63
 count-small f = omega (arith, fits-lt-pow f)
 
 -- so the signed number of the same bits is the count
 pub count-gives : {n : ℕ} → Fits w32 n → toZ w64 n ≡ pos n
 count-gives f = toZ-pos w64 (count-small f)
-
-module _ (n : ℕ) (f : Fits w32 n) where
-  pub opposite-asks : SFits w64 (pos 0 -ℤ toZ w64 n)
-  opposite-asks = rw (count-gives f, +ℤ-idl) (opposite-fits n (count-small f))
-
-  pub opposite-gives : toZ w64 (ofZ w64 (pos 0 -ℤ toZ w64 n)) ≡ negℤ (pos n)
-  opposite-gives = rw (count-gives f, +ℤ-idl) (toZ-ofZ (opposite-fits n (count-small f)))
 
 module _ (z : ℤ) (f : SFits w32 z) where
   pub load-asks : SFits w64 (toZ w32 (ofZ w32 z))

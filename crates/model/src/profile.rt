@@ -6,7 +6,7 @@ ghost use lib.Dec.{leb};
 ghost use lib.ListN.{length, take};
 ghost use Rattle.line.specs.Judging.{isPrintable};
 ghost use Rattle.weight.specs.Rounding.{allowedResolution};
-ghost use Rattle.model.specs.Profiles.{capacityAllowed, underloadAllowed, zeroRangeAllowed, timeoutAllowed, netsAllowed, textAllowed20, textAllowed40, textsAllowed, profileAllowed};
+ghost use Rattle.model.specs.Profiles.{capacityAllowed, underloadAllowed, zeroRangeAllowed, timeoutAllowed, netsAllowed, textAllowed20, textsAllowed, profileAllowed};
 use line::is_printable;
 use weight::Resolution;
 use weight::fits_below_zero;
@@ -54,22 +54,17 @@ pub fn is_text_allowed20(text: Text20) -> bool
     is_text_allowed(&bytes, text.len)
 }
 
-fn is_text_allowed40(text: Text40) -> bool
-    ensures { λ r. ⌜ r ≡ textAllowed40 text ⌝ }
-{
-    let bytes = text.bytes;
-    is_text_allowed(&bytes, text.len)
-}
-
 fn are_texts_allowed(profile: Profile) -> bool
     ensures { λ r. ⌜ r ≡ textsAllowed profile ⌝ }
 {
-    let model = profile.model;
-    let software = profile.software;
     let serial = profile.serial;
     let identity = profile.identity;
-    let long = is_text_allowed40(model) & is_text_allowed40(software);
-    long & (is_text_allowed20(serial) & is_text_allowed20(identity))
+    let short = is_text_allowed20(serial) & is_text_allowed20(identity);
+    let model = profile.model.bytes;
+    let software = profile.software.bytes;
+    let long = is_text_allowed(&model, profile.model.len)
+        & is_text_allowed(&software, profile.software.len);
+    long & short
 }
 
 fn are_limits_allowed(profile: Profile) -> bool

@@ -1,69 +1,92 @@
-use mathlib.Core.Path.{sym, _∙_}
+use mathlib.Core.Path.{_≡_, sym, _∙_}
 use borrow.Author.Needs.{needs}
-use Rattle.device.proofs.Delivery.{bytes-model, bytes-software, bytes-serial, bytes-identity, bytes-plain}
+use lib.ListN.{length}
+use Rattle.model.specs.Profiles.{textOf20, textOf40}
 use Rattle.model.proofs.ProfileFacts.{allowed-profile}
-use Rattle.device.proofs.Delivery.{short20, short40}
+use Rattle.device.proofs.Delivery.{bytes-model, bytes-software, bytes-serial, bytes-identity, bytes-plain, short}
 use Rattle.device.proofs.deliver.emit_due.Statement.{statement}
 use Rattle.device.proofs.deliver.emit_due.Tie as tie
 
 identity-in-requires : tie.Need-identity-in-requires
 identity-in-requires c κs = search needs
 
-emit-text40-requires : tie.Need-emit-text40-requires
-emit-text40-requires c κs =
-    let start = c .before .before .before .before .before in
-    short40 (start .args .profile .model) (allowed-profile (start .args .profile) (start .pre) .model)
+slice-aggregate-emit-with : tie.Need-slice-aggregate-emit-with
+slice-aggregate-emit-with c = search needs
+
+emit-with-requires : tie.Need-emit-with-requires
+emit-with-requires c κs =
+    let start = c .before .before .before .before .before .before .before in
+    let long : length (start .args .profile .model .bytes) ≡ 40 = search needs in
+    rw long (short 40 (start .args .profile .model .len) (textOf40 (start .args .profile .model)) (allowed-profile (start .args .profile) (start .pre) .model))
 
 same-length : tie.Need-same-length
 same-length c = search needs
 
 returns : tie.Need-returns
 returns c =
-    let start = c .before .before .before .before .before .before .before .before in
-    let due = sym (c .before .before .before .before .before .before .identity-in .ensures) ∙ c .before .before .before .before .before .if1 .taken in
-    rw (bytes-model (start .args .profile) (start .args .answer) due) (c .before .before .emit-text40 .ensures)
+    let start = c .before .before .before .before .before .before .before .before .before .before in
+    let due = sym (c .before .before .before .before .before .before .before .before .identity-in .ensures) ∙ c .before .before .before .before .before .before .before .if1 .taken in
+    rw (bytes-model (start .args .profile) (start .args .answer) due) (c .before .before .emit-with .ensures)
 
-emit-text40-requires-2 : tie.Need-emit-text40-requires-2
-emit-text40-requires-2 c κs =
-    let start = c .before .before .before .before .before .before in
-    short40 (start .args .profile .software) (allowed-profile (start .args .profile) (start .pre) .software)
+slice-aggregate-emit-with-2 : tie.Need-slice-aggregate-emit-with-2
+slice-aggregate-emit-with-2 c = search needs
+
+software-cells : (c : tie.After-text2) → length (c .before .before .before .before .before .args .profile .software .bytes) ≡ 40
+software-cells c = search needs
+
+emit-with-requires-2 : tie.Need-emit-with-requires-2
+emit-with-requires-2 c κs =
+    let start = c .before .before .before .before .before .before .before .before in
+    rw (software-cells (c .before .before .before)) (short 40 (start .args .profile .software .len) (textOf40 (start .args .profile .software)) (allowed-profile (start .args .profile) (start .pre) .software))
 
 same-length-2 : tie.Need-same-length-2
 same-length-2 c = search needs
 
 returns-2 : tie.Need-returns-2
 returns-2 c =
-    let start = c .before .before .before .before .before .before .before .before .before in
-    let due = sym (c .before .before .before .before .before .before .before .identity-in .ensures) ∙ c .before .before .before .before .before .if2 .taken in
-    rw (bytes-software (start .args .profile) (start .args .answer) due) (c .before .before .emit-text402 .ensures)
+    let start = c .before .before .before .before .before .before .before .before .before .before .before in
+    let due = sym (c .before .before .before .before .before .before .before .before .before .identity-in .ensures) ∙ c .before .before .before .before .before .before .before .if2 .taken in
+    rw (bytes-software (start .args .profile) (start .args .answer) due) (c .before .before .emit-with2 .ensures)
 
-emit-text20-requires : tie.Need-emit-text20-requires
-emit-text20-requires c κs =
-    let start = c .before .before .before .before .before .before .before in
-    short20 (start .args .profile .serial) (allowed-profile (start .args .profile) (start .pre) .serial)
+slice-aggregate-emit-with-3 : tie.Need-slice-aggregate-emit-with-3
+slice-aggregate-emit-with-3 c = search needs
+
+serial-cells : (c : tie.After-text3) → length (c .before .before .before .before .before .before .args .profile .serial .bytes) ≡ 20
+serial-cells c = search needs
+
+emit-with-requires-3 : tie.Need-emit-with-requires-3
+emit-with-requires-3 c κs =
+    let start = c .before .before .before .before .before .before .before .before .before in
+    rw (serial-cells (c .before .before .before)) (short 20 (start .args .profile .serial .len) (textOf20 (start .args .profile .serial)) (allowed-profile (start .args .profile) (start .pre) .serial))
 
 same-length-3 : tie.Need-same-length-3
 same-length-3 c = search needs
 
 returns-3 : tie.Need-returns-3
 returns-3 c =
-    let start = c .before .before .before .before .before .before .before .before .before .before in
-    let due = sym (c .before .before .before .before .before .before .before .before .identity-in .ensures) ∙ c .before .before .before .before .before .if3 .taken in
-    rw (bytes-serial (start .args .profile) (start .args .answer) due) (c .before .before .emit-text20 .ensures)
+    let start = c .before .before .before .before .before .before .before .before .before .before .before .before in
+    let due = sym (c .before .before .before .before .before .before .before .before .before .before .identity-in .ensures) ∙ c .before .before .before .before .before .before .before .if3 .taken in
+    rw (bytes-serial (start .args .profile) (start .args .answer) due) (c .before .before .emit-with3 .ensures)
 
-emit-text20-requires-2 : tie.Need-emit-text20-requires-2
-emit-text20-requires-2 c κs =
-    let start = c .before .before .before .before .before .before .before .before in
-    short20 (start .args .profile .identity) (allowed-profile (start .args .profile) (start .pre) .identity)
+slice-aggregate-emit-with-4 : tie.Need-slice-aggregate-emit-with-4
+slice-aggregate-emit-with-4 c = search needs
+
+identity-cells : (c : tie.After-text4) → length (c .before .before .before .before .before .before .before .args .profile .identity .bytes) ≡ 20
+identity-cells c = search needs
+
+emit-with-requires-4 : tie.Need-emit-with-requires-4
+emit-with-requires-4 c κs =
+    let start = c .before .before .before .before .before .before .before .before .before .before in
+    rw (identity-cells (c .before .before .before)) (short 20 (start .args .profile .identity .len) (textOf20 (start .args .profile .identity)) (allowed-profile (start .args .profile) (start .pre) .identity))
 
 same-length-4 : tie.Need-same-length-4
 same-length-4 c = search needs
 
 returns-4 : tie.Need-returns-4
 returns-4 c =
-    let start = c .before .before .before .before .before .before .before .before .before .before .before in
-    let due = sym (c .before .before .before .before .before .before .before .before .before .identity-in .ensures) ∙ c .before .before .before .before .before .if4 .taken in
-    rw (bytes-identity (start .args .profile) (start .args .answer) due) (c .before .before .emit-text202 .ensures)
+    let start = c .before .before .before .before .before .before .before .before .before .before .before .before .before in
+    let due = sym (c .before .before .before .before .before .before .before .before .before .before .before .identity-in .ensures) ∙ c .before .before .before .before .before .before .before .if4 .taken in
+    rw (bytes-identity (start .args .profile) (start .args .answer) due) (c .before .before .emit-with4 .ensures)
 
 slice-aggregate-emit-answer : tie.Need-slice-aggregate-emit-answer
 slice-aggregate-emit-answer c = search needs
@@ -87,16 +110,20 @@ emit-due-spec =
     tie.close
     (tie.spec
     identity-in-requires
-    emit-text40-requires
+    slice-aggregate-emit-with
+    emit-with-requires
     same-length
     returns
-    emit-text40-requires-2
+    slice-aggregate-emit-with-2
+    emit-with-requires-2
     same-length-2
     returns-2
-    emit-text20-requires
+    slice-aggregate-emit-with-3
+    emit-with-requires-3
     same-length-3
     returns-3
-    emit-text20-requires-2
+    slice-aggregate-emit-with-4
+    emit-with-requires-4
     same-length-4
     returns-4
     slice-aggregate-emit-answer

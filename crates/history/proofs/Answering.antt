@@ -5,7 +5,7 @@ use Prim.Native.Nat.{ℕ, _≤_}
 use mathlib.Core.Path.{_≡_, refl}
 use mathlib.Core.Bool.{Bool, true, false, _||_}
 use mathlib.Core.List.{List}
-use lib.IntN.{ℤ, pos, negℤ, natAbs}
+use lib.IntN.{pos, negℤ, natAbs}
 use lib.Signed.{ltZ}
 use Rattle.answer.specs.declared.answer.Answer.the-variants.{Plain, Weight}
 use Rattle.answer.specs.declared.answer.Status.{Status}

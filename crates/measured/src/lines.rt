@@ -1,6 +1,5 @@
 // Lines read, or read and written again, from records of 64 bytes: the line's length, and the line.
 use crate::record::joined;
-use crate::record::part;
 use crate::record::wide;
 use crate::sums::Sums;
 use crate::sums::with_bytes;
@@ -11,6 +10,7 @@ use answer::Status;
 use host::Read;
 use host::read_line;
 use host::write_line;
+use text::part;
 use weight::nanograms_of;
 
 const RECORD: usize = 64;

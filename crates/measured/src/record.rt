@@ -1,17 +1,4 @@
-// Parts of a slice, and numbers of four bytes.
-
-// At most `count` bytes from `start` on.
-pub(crate) fn part(bytes: &[u8], start: usize, count: usize) -> &[u8] {
-    let end = bytes.len();
-    if end <= start {
-        return &bytes[end..];
-    }
-    if end - start < count {
-        return &bytes[start..];
-    }
-    let stop = start + count;
-    &bytes[start..stop]
-}
+// Numbers of four bytes.
 
 // The low byte first.
 pub(crate) fn joined(a: u8, b: u8, c: u8, d: u8) -> u32 {

@@ -3,6 +3,7 @@ mod Ending
 mod FieldText
 pub mod Named
 mod NumberText
+mod Parts
 pub mod ReadBack
 mod SameText
 pub mod Searching

@@ -6,10 +6,10 @@ use answer::Status;
 use host::Read;
 use host::read_line;
 use host::write_line;
+use text::ShortText;
 use text::part;
 use text::same_text;
 use weight::LastPlaces;
-use weight::WeightUnit;
 
 fn text(bytes: &[u8]) {
     io::write_all(1, bytes);
@@ -23,16 +23,13 @@ fn end() {
     text(b"\r\n");
 }
 
-fn name(command: u8) {
-    let named = answer::name_of(command);
-    let bytes = named.cells;
-    text(part(&bytes, 0, named.len));
+fn short(short: ShortText) {
+    let bytes = short.cells;
+    text(part(&bytes, 0, short.len));
 }
 
-fn unit(unit: WeightUnit) {
-    let named = text::unit_text(unit);
-    let bytes = named.cells;
-    text(part(&bytes, 0, named.len));
+fn name(command: u8) {
+    short(answer::name_of(command));
 }
 
 fn letter(status: Status) -> u8 {
@@ -85,7 +82,7 @@ fn weight(head: Head, number: Number) {
     space();
     io::print_decimal(1, number.decimals as u64);
     space();
-    unit(measure);
+    short(text::unit_text(measure));
     end();
 }
 

@@ -13,6 +13,9 @@ use Rattle.text.specs.declared.field.Field.{Field}
 use Rattle.weight.specs.Field.{fitsField}
 use Rattle.text.specs.Field.{fieldIf}
 use Rattle.text.specs.Units.{unitText}
+use Rattle.text.specs.declared.short.ShortText.{ShortText}
+use Rattle.text.specs.Short.{shortOf, textOf}
+use Rattle.text.proofs.Cells.{cells-text}
 use Rattle.answer.specs.declared.answer.Number.{Number}
 
 -- a name, then a space with the status and the end
@@ -33,10 +36,12 @@ unfolding headText
 weight-pieces h w b e = weight-shape (nameOf (h .identification)) (statusText (h .status)) w b e
 
 -- the field, a space, the unit
-pub number-pieces : (n : Number) (f : Field) → f ≡ fieldIf (fitsField (n .decimals) (n .places .0)) (n .decimals) (n .places .0)
-    → f .cells ++ (32 ∷ []) ++ unitText (n .unit) ≡ weightText n
+pub number-pieces : (n : Number) (f : Field) (u : ShortText) → f ≡ fieldIf (fitsField (n .decimals) (n .places .0)) (n .decimals) (n .places .0)
+    → u ≡ shortOf (unitText (n .unit)) → f .cells ++ (32 ∷ []) ++ textOf u ≡ weightText n
 unfolding weightText
-number-pieces n f e = ap (λ (x : Field). x .cells ++ (32 ∷ []) ++ unitText (n .unit)) e
+number-pieces n f u e k =
+    ap (λ (x : Field). x .cells ++ (32 ∷ []) ++ textOf u) e
+    ∙ ap (λ (t : List ℕ). fieldIf (fitsField (n .decimals) (n .places .0)) (n .decimals) (n .places .0) .cells ++ (32 ∷ []) ++ t) (cells-text u (unitText (n .unit)) k)
 
 -- a name, the grant with the first quote, the text, the last quote with the end
 pub text-pieces : (n t : List ℕ) → n ++ (32 ∷ 65 ∷ 32 ∷ 34 ∷ []) ++ t ++ (34 ∷ 13 ∷ 10 ∷ []) ≡ n ++ ascii " A " ++ quoted t ++ lineEnd

@@ -1,3 +1,4 @@
+pub mod Cells
 pub mod DecimalText
 mod Ending
 mod FieldText

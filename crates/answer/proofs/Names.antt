@@ -3,46 +3,37 @@
 use mathlib.Core.Path.{_≡_, refl, sym, ap, _∙_}
 use mathlib.Core.Bool.{Bool, true, false, cond, _&&_, and-eq-true-iff, false≢true}
 use mathlib.Core.List.{List, [], _∷_}
-use Prim.Native.Nat.{ℕ, zero, suc, _+_, _-_, _≤_, _<_, zero-le}
+use Prim.Native.Nat.{ℕ, zero, suc, _+_, _≤_, _<_, zero-le}
 use mathlib.Core.Logic.{⊎-elim}
 use native.Mathlib.Nat.{eq-or-lt-of-le, le-of-suc-le-suc, not-suc-le-zero, add-zero, add-suc, suc-add, zero-add}
 use native.Mathlib.Omega.{arith}
 use borrow.Author.Tests.{eqb-true, ne-eqb, leb-true}
 use lib.Dec.{leb, ltb, eqb}
-use lib.ListN.{length, take, getD, replicate, length-append, List·getD-eq-default}
-use lib.Seq.{take-append-seam, take-all, length-take-le}
-use Rattle.weight.specs.Ascii.{space}
+use lib.ListN.{length, take, getD, List·getD-eq-default}
+use lib.Seq.{take-all}
 use Rattle.text.specs.Ascii.{sameText}
+use Rattle.text.specs.Short.{shortOf, textOf}
+use Rattle.text.specs.declared.short.ShortText.{ShortText}
 use Rattle.weight.proofs.Allowed.{both-left, both-right}
 use Rattle.text.proofs.Named.{same-is, same-self}
-use Rattle.answer.specs.Commands.{basicNames, names, nameOf, nameCells, levelOf, placeIn, placeOf, endsOf, allEnds, placeAmong}
-use Rattle.answer.specs.declared.command.Name.{Name}
-
--- the first cells of a name are its text
-pub cells-name : (n : Name) (c : ℕ) → n ≡ nameCells c → take (n .len) (n .cells) ≡ nameOf c
-cells-name n c e = rw e (take-append-seam (nameOf c) (replicate (3 - length (nameOf c)) space))
-
-pub cells-enough : (n : Name) (c : ℕ) → n ≡ nameCells c → n .len ≤ length (n .cells)
-cells-enough n c e = rw e (omega (arith, length-append (nameOf c) (replicate (3 - length (nameOf c)) space)))
-
-pub cells-count : (n : Name) (c : ℕ) → n ≡ nameCells c → n .len ≡ length (take (n .len) (n .cells))
-cells-count n c e = sym (length-take-le (n .len) (n .cells) (cells-enough n c e))
+use Rattle.text.proofs.Cells.{cells-text}
+use Rattle.answer.specs.Commands.{basicNames, names, nameOf, levelOf, placeIn, placeOf, endsOf, allEnds, placeAmong}
 
 -- a word of another length is not the name
 unlike : (v w : List ℕ) → (length v ≡ length w → ⊥) → (b : Bool) → sameText v w ≡ b → false ≡ b
 unlike v w h true e = absurd (h (ap length (same-is v w e)))
 unlike v w h false e = refl
 
-module _ (w : List ℕ) (n : Name) (c : ℕ) (e : n ≡ nameCells c) where
+module _ (w : List ℕ) (n : ShortText) (c : ℕ) (e : n ≡ shortOf (nameOf c)) where
   pub other-length : (length w ≡ n .len → ⊥) → false ≡ sameText w (nameOf c)
-  other-length h = unlike w (nameOf c) (λ l. h (l ∙ sym (ap (λ (x : Name). x .len) e))) (sameText w (nameOf c)) refl
+  other-length h = unlike w (nameOf c) (λ l. h (l ∙ sym (ap (λ (x : ShortText). x .len) e))) (sameText w (nameOf c)) refl
 
   -- and one of the same length is compared whole
-  pub whole-word : (b : Bool) → length w ≡ n .len → b ≡ sameText (take (n .len) w) (take (n .len) (n .cells)) → b ≡ sameText w (nameOf c)
+  pub whole-word : (b : Bool) → length w ≡ n .len → b ≡ sameText (take (n .len) w) (textOf n) → b ≡ sameText w (nameOf c)
   whole-word b h s =
       s
-      ∙ ap (λ (v : List ℕ). sameText v (take (n .len) (n .cells))) (take-all (n .len) w (omega arith))
-      ∙ ap (sameText w) (cells-name n c e)
+      ∙ ap (λ (v : List ℕ). sameText v (textOf n)) (take-all (n .len) w (omega arith))
+      ∙ ap (sameText w) (cells-text n (nameOf c) e)
 
 -- past the end there is no name
 pub no-name : (c : ℕ) → length names ≤ c → nameOf c ≡ []
@@ -64,9 +55,6 @@ at-name f (n ∷ ns) (suc c) e = at-name f ns c (both-right (f n) (everyName f n
 -- no name is over three characters
 pub name-short : (c : ℕ) → length (nameOf c) ≤ 3
 name-short c = leb-true (length (nameOf c)) 3 (at-name (λ n. leb (length n) 3) names c refl)
-
-pub cells-length : (n : Name) (c : ℕ) → n ≡ nameCells c → (n .len ≡ length (nameOf c)) × (n .len ≤ 3)
-cells-length n c e = rw e (refl, name-short c)
 
 level-by : (b : Bool) → cond b 0 1 ≤ 1
 level-by true = zero-le

@@ -4,9 +4,7 @@ use Prim.Native.Nat.{ℕ, suc, _+_, _-_, _*_}
 use mathlib.Core.Bool.{cond}
 use mathlib.Core.List.{List, [], _∷_, _++_}
 use lib.Dec.{ltb, eqb}
-use lib.ListN.{length, getD, replicate}
-use Rattle.answer.specs.declared.command.Name.{Name}
-use Rattle.weight.specs.Ascii.{space}
+use lib.ListN.{length, getD}
 use Rattle.text.specs.Ascii.{ascii, sameText}
 
 -- level 0
@@ -36,9 +34,6 @@ names = basicNames ++ elementaryNames
 -- a command is its place in that order; past the end there is no name
 abbrev pub nameOf : ℕ → List ℕ
 nameOf c = getD names c []
-
-abbrev pub nameCells : ℕ → Name
-nameCells c = record { cells = nameOf c ++ replicate (3 - length (nameOf c)) space; len = length (nameOf c) }
 
 abbrev pub levelOf : ℕ → ℕ
 levelOf c = cond (ltb c (length basicNames)) 0 1

@@ -3,9 +3,11 @@ ghost use mathlib.Core.Path.{_≡_};
 ghost use mathlib.Core.List.{[], _∷_};
 ghost use Prim.Native.Nat.{_+_, _*_, _≤_};
 ghost use lib.ListN.{length};
-ghost use Rattle.answer.specs.declared.command.Name.{Name};
-ghost use Rattle.answer.specs.Commands.{nameOf, nameCells, levelOf, names, placeOf, endsOf, allEnds, placeAmong};
+ghost use Rattle.answer.specs.Commands.{nameOf, levelOf, names, placeOf, endsOf, allEnds, placeAmong};
 ghost use Rattle.text.specs.Ascii.{sameText};
+ghost use Rattle.text.specs.Short.{shortOf};
+ghost use Rattle.text.specs.declared.short.ShortText.{ShortText};
+use text::ShortText;
 use text::same_text;
 
 pub const I0: u8 = 0;
@@ -46,18 +48,12 @@ pub const TI: u8 = 17;
 // The place of what is no command: as many as there are.
 pub const NONE: u8 = 18;
 
-// A command's name: the first `len` cells, spaces after them.
-pub struct Name {
-    pub cells: [u8; 3],
-    pub len: usize,
-}
-
 // The cells of a name one by one, and its length: the prover finds a match that makes arrays costly.
 struct Letters(u8, u8, u8, usize);
 
 // Past the end there is no name.
 fn letters_of(command: u8) -> Letters
-    ensures { λ r. ⌜ _≡_ {A = Name} (record { cells = r .0 ∷ r .1 ∷ r .2 ∷ []; len = r .3 }) (nameCells command) ⌝ }
+    ensures { λ r. ⌜ _≡_ {A = ShortText} (record { cells = r .0 ∷ r .1 ∷ r .2 ∷ []; len = r .3 }) (shortOf (nameOf command)) ⌝ }
 {
     match command {
         I0 => Letters(b'I', b'0', b' ', 2),
@@ -90,11 +86,11 @@ pub fn name_length(command: u8) -> usize
     letters.3
 }
 
-pub fn name_of(command: u8) -> Name
-    ensures { λ r. ⌜ r ≡ nameCells command ⌝ }
+pub fn name_of(command: u8) -> ShortText
+    ensures { λ r. ⌜ r ≡ shortOf (nameOf command) ⌝ }
 {
     let letters = letters_of(command);
-    Name {
+    ShortText {
         cells: [letters.0, letters.1, letters.2],
         len: letters.3,
     }

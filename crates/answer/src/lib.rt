@@ -17,7 +17,6 @@ pub use command::I3;
 pub use command::I4;
 pub use command::I5;
 pub use command::NONE;
-pub use command::Name;
 pub use command::RESET;
 pub use command::S;
 pub use command::SI;

@@ -4,12 +4,12 @@ use answer::Head;
 use answer::Number;
 use answer::Status;
 use host::Read;
-use host::ReadText;
 use host::read_line;
 use host::write_line;
+use text::ShortText;
+use text::part;
 use text::same_text;
 use weight::LastPlaces;
-use weight::WeightUnit;
 
 fn text(bytes: &[u8]) {
     io::write_all(1, bytes);
@@ -23,25 +23,13 @@ fn end() {
     text(b"\r\n");
 }
 
-// The first `len` bytes.
-fn first(bytes: &[u8], len: usize) -> &[u8] {
-    let start = 0;
-    if len <= bytes.len() {
-        return &bytes[start..len];
-    }
-    bytes
+fn short(short: ShortText) {
+    let bytes = short.cells;
+    text(part(&bytes, 0, short.len));
 }
 
 fn name(command: u8) {
-    let named = answer::name_of(command);
-    let bytes = named.cells;
-    text(first(&bytes, named.len));
-}
-
-fn unit(unit: WeightUnit) {
-    let named = text::unit_text(unit);
-    let bytes = named.cells;
-    text(first(&bytes, named.len));
+    short(answer::name_of(command));
 }
 
 fn letter(status: Status) -> u8 {
@@ -94,7 +82,7 @@ fn weight(head: Head, number: Number) {
     space();
     io::print_decimal(1, number.decimals as u64);
     space();
-    unit(measure);
+    short(text::unit_text(measure));
     end();
 }
 
@@ -141,22 +129,7 @@ fn tell_answer(answer: Answer, bytes: &[u8], line: &[u8]) {
 fn is_written_again(answer: Answer, bytes: &[u8], line: &[u8]) -> bool {
     let mut again = [0u8; 64];
     let written = write_line(answer, bytes, &mut again);
-    same_text(first(&again, written.count), line)
-}
-
-// The text's bytes; none where they do not stand in the line.
-fn text_in(line: &[u8], place: ReadText) -> &[u8] {
-    let start = place.start;
-    let len = place.len;
-    let end = line.len();
-    if end < start {
-        return &line[end..];
-    }
-    if end - start < len {
-        return &line[end..];
-    }
-    let stop = start + len;
-    &line[start..stop]
+    same_text(part(&again, 0, written.count), line)
 }
 
 fn tell_line(answer: Answer, bytes: &[u8], line: &[u8]) {
@@ -173,7 +146,7 @@ pub fn tell_refused() {
 pub fn tell(line: &[u8]) {
     let read = read_line(line);
     match read {
-        Read::Line(answer, place) => tell_line(answer, text_in(line, place), line),
+        Read::Line(answer, place) => tell_line(answer, part(line, place.start, place.len), line),
         Read::Refused => tell_refused(),
     }
 }

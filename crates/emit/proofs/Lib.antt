@@ -2,4 +2,3 @@ mod Laying
 mod Lines
 mod Listing
 mod Rooms
-mod Units

@@ -10,7 +10,7 @@ use borrow.Author.Tests.{eq-eqb, ne-eqb, eqb-true, eqb-false}
 use lib.Dec.{eqb}
 use lib.ListN.{length}
 use Rattle.answer.specs.Lines.{listedLine, listedFrom}
-use Rattle.emit.proofs.Laying.{Laid, laid-laid, laid-as, room-2-of-3}
+use Rattle.emit.proofs.Laying.{Laid, Two, Three, laid-2, laid-as, room-2-of-3}
 
 -- the lines before command c
 unfoldable pub listedTo : ℕ → List ℕ
@@ -39,12 +39,14 @@ module _ (d : List ℕ) (a c : ℕ) {e : List ℕ} {b : ℕ} (l : Laid d a e b (
   pub line-room : c < 18 → a + length (listedFrom 18 0) ≤ length d → b + length (listedLine (eqb c 17) c) ≤ length e
   unfolding listedTo
   line-room h r =
-      room-2-of-3 d a (listedTo c) (listedLine (eqb c 17) c) (listedFrom (17 - c) (suc c)) (listedFrom 18 0)
-      (listed-split (suc c) (17 - c) (omega arith)) l r
+      let all : Three (listedTo c) (listedLine (eqb c 17) c) (listedFrom (17 - c) (suc c)) (listedFrom 18 0) = record { whole = listed-split (suc c) (17 - c) (omega arith) } in
+      room-2-of-3 d a all l r
 
   pub line-more : {f : List ℕ} {g : ℕ} → Laid e b f g (listedLine (eqb c 17) c) → Laid d a f g (listedTo (c + 1))
   unfolding listedTo
-  line-more m = laid-laid d a (listedTo c) (listedLine (eqb c 17) c) (listedTo (c + 1)) (rw (add-one c)) l m
+  line-more m =
+      let more : Two (listedTo c) (listedLine (eqb c 17) c) (listedTo (c + 1)) = record { whole = rw (add-one c) } in
+      laid-2 d a more l m
 
   pub line-last : c ≡ 18 → Laid d a e b (listedFrom 18 0)
   unfolding listedFrom

@@ -9,6 +9,7 @@ ghost use Rattle.answer.specs.Commands.{nameOf};
 ghost use Rattle.answer.specs.Lines.{lineEnd, quoted, statusText, headText, weightText, errorText, listedLine, listedFrom, lineOf};
 ghost use Rattle.emit.specs.Rooms.{emitted, laidIn};
 ghost use Rattle.text.specs.Ascii.{ascii};
+ghost use Rattle.text.specs.Short.{textOf};
 ghost use Rattle.text.specs.Units.{unitText};
 use answer::Answer;
 use answer::Error;
@@ -20,6 +21,7 @@ use answer::TI;
 use answer::level_of;
 use answer::name_length;
 use answer::name_of;
+use text::ShortText;
 use text::field_of;
 use text::unit_text;
 use weight::WeightUnit;
@@ -49,26 +51,25 @@ fn put(out: &mut [u8], at: usize, piece: &[u8]) -> usize
     at + i
 }
 
+// A name or a unit's text.
+fn put_short(out: &mut [u8], at: usize, short: ShortText) -> usize
+    requires { ⌜ short .len ≤ length (short .cells) ⌝ }
+    requires { ⌜ at + length (textOf short) ≤ length (now out) ⌝ }
+    ensures { λ r. ⌜ r ≡ at + length (textOf short) ⌝ }
+    ensures { λ r. ⌜ now (out .exit) ≡ sets (now (out .entry)) at (textOf short) ⌝ }
+{
+    let cells = short.cells;
+    let len = short.len;
+    put(out, at, &cells[..len])
+}
+
 fn put_name(out: &mut [u8], at: usize, command: u8) -> usize
     requires { ⌜ at + length (nameOf command) ≤ length (now out) ⌝ }
     ensures { λ r. ⌜ r ≡ at + length (nameOf command) ⌝ }
     ensures { λ r. ⌜ now (out .exit) ≡ sets (now (out .entry)) at (nameOf command) ⌝ }
 {
     let name = name_of(command);
-    let cells = name.cells;
-    let len = name.len;
-    put(out, at, &cells[..len])
-}
-
-fn put_unit(out: &mut [u8], at: usize, unit: WeightUnit) -> usize
-    requires { ⌜ at + length (unitText unit) ≤ length (now out) ⌝ }
-    ensures { λ r. ⌜ r ≡ at + length (unitText unit) ⌝ }
-    ensures { λ r. ⌜ now (out .exit) ≡ sets (now (out .entry)) at (unitText unit) ⌝ }
-{
-    let text = unit_text(unit);
-    let cells = text.cells;
-    let len = text.len;
-    put(out, at, &cells[..len])
+    put_short(out, at, name)
 }
 
 fn status_byte(status: Status) -> u8
@@ -96,9 +97,10 @@ fn put_number(out: &mut [u8], at: usize, number: Number) -> usize
     let unit = number.unit;
     let field = field_of(number.decimals, places);
     let cells = field.cells;
+    let text = unit_text(unit);
     let gap = put(out, at, &cells);
     let next = put(out, gap, b" ");
-    put_unit(out, next, unit)
+    put_short(out, next, text)
 }
 
 fn put_plain(out: &mut [u8], at: usize, head: Head) -> usize

@@ -6,6 +6,5 @@ pub mod Inverse
 mod Named
 pub mod Numbers
 mod Outcomes
-mod Scanning
 mod Shapes
 mod Texts

@@ -4,10 +4,10 @@ ghost use Prim.Native.Nat.{_≤_};
 ghost use lib.ListN.{length};
 ghost use Rattle.host.specs.Frames.{isEnded, weightFrame, errorFrame, quoteFrame, textFrame, listedFrame, frameOf};
 ghost use Rattle.line.specs.Judging.{beforeSpace};
-use crate::scan::byte_at;
 use crate::scan::left;
 use answer::Answer;
 use answer::level_of;
+use text::byte_at;
 use text::same_text;
 
 const ZERO: u8 = 48;

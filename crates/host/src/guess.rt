@@ -5,9 +5,7 @@ ghost use lib.ListN.{length};
 ghost use Rattle.answer.specs.Commands.{placeOf};
 ghost use Rattle.host.specs.Reads.{errorGuess, statusGuess, weightGuess, headGuess, fieldGuess, unitGuess, listedGuess, namedGuess, guessed};
 ghost use Rattle.line.specs.Judging.{beforeSpace};
-use crate::scan::byte_at;
 use crate::scan::left;
-use crate::scan::part;
 use answer::Answer;
 use answer::Error;
 use answer::Head;
@@ -20,6 +18,8 @@ use answer::Status;
 use answer::find_command;
 use text::FieldRead;
 use text::UnitRead;
+use text::byte_at;
+use text::part;
 use text::read_field;
 use text::read_unit;
 

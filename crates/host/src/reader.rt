@@ -10,11 +10,11 @@ use crate::guess::guess_answer;
 use crate::guess::head_guess;
 use crate::scan::left;
 use crate::scan::name_length;
-use crate::scan::part;
 use answer::Answer;
 use answer::find_command;
 use forms::can_form;
 use forms::plain_form;
+use text::part;
 
 // No line that can be formed is longer: I2 with a text of 40 bytes.
 const LONGEST: usize = 49;

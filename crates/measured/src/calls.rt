@@ -3,7 +3,6 @@
 ghost use Prim.Native.Nat.{_≤_};
 use crate::profile::profile_at;
 use crate::record::joined;
-use crate::record::part;
 use crate::sums::Sums;
 use crate::sums::with_bytes;
 use crate::sums::with_number;
@@ -16,6 +15,7 @@ use model::Profile;
 use model::Refusal;
 use model::State;
 use model::start_state;
+use text::part;
 
 const RECORD: usize = 8;
 

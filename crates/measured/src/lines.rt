@@ -1,7 +1,5 @@
 // Lines read, or read and written again, from records of 64 bytes: the line's length, and the line.
 use crate::record::joined;
-use crate::record::part;
-use crate::record::wide;
 use crate::sums::Sums;
 use crate::sums::with_bytes;
 use crate::sums::with_number;
@@ -11,6 +9,8 @@ use answer::Status;
 use host::Read;
 use host::read_line;
 use host::write_line;
+use text::byte_at;
+use text::part;
 use weight::nanograms_of;
 
 const RECORD: usize = 64;
@@ -83,10 +83,11 @@ fn digest_of(answer: Answer, len: usize) -> Digest {
 
 fn line_at(lines: &[u8], at: usize) -> &[u8] {
     let record = part(lines, at, RECORD);
+    // Past the end: settled here, the loop takes fewer instructions.
     if record.len() < 1 {
         return record;
     }
-    part(record, 1, wide(record[0]))
+    part(record, 1, byte_at(record, 0) as usize)
 }
 
 fn read_at(lines: &[u8], at: usize) -> Digest {

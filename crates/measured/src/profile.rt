@@ -1,9 +1,10 @@
 // A profile of 143 bytes: C, U, R and W, the place of the unit, decimals, step, and the texts of I2 to I5, each after its length.
 use crate::record::joined;
-use crate::record::part;
 use model::Profile;
 use model::Text20;
 use model::Text40;
+use text::byte_at;
+use text::part;
 use weight::Resolution;
 use weight::WeightUnit;
 
@@ -20,13 +21,6 @@ fn unit_of(place: u8) -> WeightUnit {
         5 => WeightUnit::Gn,
         _ => WeightUnit::Dwt,
     }
-}
-
-fn byte_at(bytes: &[u8], i: usize) -> u8 {
-    if i < bytes.len() {
-        return bytes[i];
-    }
-    0
 }
 
 // The bytes from `at` on, 0 past the end.

@@ -1,6 +1,6 @@
 // A checksum in which every byte and its place count: a sum, and the sum of the sums.
-use crate::record::wide;
 use std::num::wrapping_add_u64;
+use text::byte_at;
 
 pub(crate) struct Sums {
     pub(crate) low: u64,
@@ -19,7 +19,7 @@ pub(crate) fn with_bytes(sums: Sums, bytes: &[u8]) -> Sums {
     let mut next = sums;
     let mut i = 0;
     while i < bytes.len() {
-        next = with_number(next, wide(bytes[i]) as u64);
+        next = with_number(next, byte_at(bytes, i) as u64);
         i += 1;
     }
     next

@@ -1,17 +1,14 @@
--- A byte and the words of a line, past its end too.
+-- The words of a line, past its end too.
 -- Assumes nothing.
 use mathlib.Core.Path.{_≡_, sym, _∙_}
 use mathlib.Core.List.{List}
 use Prim.Native.Nat.{ℕ, _+_, _-_, _≤_, _<_}
 use native.Mathlib.Omega.{arith}
-use lib.ListN.{length, getD, take, drop, drop-of-length-le, List·getD-eq-default}
+use lib.ListN.{length, take, drop, drop-of-length-le}
 use lib.Seq.{drop-length, take-nil, length-take-le}
 use Rattle.weight.specs.Ascii.{space}
 use Rattle.text.specs.Searching.{FirstAt}
 use Rattle.script.specs.Words.{firstWord, afterWord}
-
-pub byte-past : (t : List ℕ) (i : ℕ) → length t ≤ i → 0 ≡ getD t i 0
-byte-past t i h = sym (List·getD-eq-default t 0 h)
 
 pub nothing-from : (t : List ℕ) (start : ℕ) → length t < start → take (length t - length t) (drop (length t) t) ≡ drop start t
 nothing-from t start h =

@@ -1,7 +1,7 @@
 // Bytes of two hexadecimal digits each, with one space between them.
 ghost use mathlib.Core.Path.{_≡_};
 ghost use Rattle.script.specs.Hex.{hexDigit, canStand, areHex, twoDigits, hexByte};
-use crate::words::byte_at;
+use text::byte_at;
 
 // 16 for a byte that is no such digit.
 fn digit(byte: u8) -> u8

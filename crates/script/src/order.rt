@@ -11,10 +11,10 @@ use crate::profile::are_numbers;
 use crate::profile::read_numbers;
 use crate::profile::text_fits;
 use crate::words::after_word;
-use crate::words::byte_at;
 use crate::words::first_word;
 use crate::words::from;
 use model::Load;
+use text::byte_at;
 use text::first_at;
 use text::same_text;
 

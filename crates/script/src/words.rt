@@ -1,18 +1,8 @@
-// The bytes of a line, and its words, with one space between them. Past the end there are none.
+// The words of a line, with one space between them. Past the end there are none.
 ghost use mathlib.Core.Path.{_≡_};
-ghost use lib.ListN.{getD, drop};
+ghost use lib.ListN.{drop};
 ghost use Rattle.script.specs.Words.{firstWord, afterWord};
 use text::first_at;
-
-// A byte; 0 past the end.
-pub fn byte_at(text: &[u8], i: usize) -> u8
-    ensures { λ r. ⌜ r ≡ getD (now (text .entry)) i 0 ⌝ }
-{
-    if i < text.len() {
-        return text[i];
-    }
-    0
-}
 
 // Everything from `start` on.
 pub fn from(text: &[u8], start: usize) -> &[u8]

@@ -3,20 +3,19 @@
 use mathlib.Core.Path.{_≡_, refl, ap, ap₂, _∙_}
 use mathlib.Core.Bool.{Bool, true, false, cond}
 use mathlib.Core.List.{List, [], _∷_}
-use Prim.Native.Nat.{ℕ, _+_, _-_, _≤_, _<_}
+use Prim.Native.Nat.{ℕ, _+_, _≤_, _<_}
 use native.Mathlib.Omega.{arith}
 use native.Mathlib.Numerals.{add-one}
 use borrow.Author.Tests.{eq-eqb, eqb-true}
 use lib.Dec.{eqb}
-use lib.ListN.{length, take, drop, getD, replicate, length-append}
-use lib.Seq.{drop-cons, take-append-seam}
+use lib.ListN.{length, drop, getD}
+use lib.Seq.{drop-cons}
 use Rattle.weight.specs.declared.units.WeightUnit.{WeightUnit}
 use Rattle.weight.specs.declared.units.WeightUnit.the-variants.{G, Mg, Ct, Oz, Ozt, Gn, Dwt}
 use Rattle.text.specs.declared.units.UnitRead.{UnitRead}
 use Rattle.text.specs.declared.units.UnitRead.the-variants.{Named}
-use Rattle.weight.specs.Ascii.{space}
 use Rattle.text.specs.Ascii.{sameText}
-use Rattle.text.specs.Units.{unitText, unitCells, allUnits, firstNamed, unitNamed}
+use Rattle.text.specs.Units.{unitText, allUnits, firstNamed, unitNamed}
 use Rattle.weight.proofs.Allowed.{both-left, both-right}
 
 -- no unit is over three characters
@@ -28,13 +27,6 @@ unit-short Oz = omega arith
 unit-short Ozt = omega arith
 unit-short Gn = omega arith
 unit-short Dwt = omega arith
-
--- the first cells of a unit are its text
-pub cells-text : (u : WeightUnit) → take (unitCells u .len) (unitCells u .cells) ≡ unitText u
-cells-text u = take-append-seam (unitText u) (replicate (3 - length (unitText u)) space)
-
-pub cells-enough : (u : WeightUnit) → unitCells u .len ≤ length (unitCells u .cells)
-cells-enough u = omega (arith, length-append (unitText u) (replicate (3 - length (unitText u)) space))
 
 module _ (t : List ℕ) (us : List WeightUnit) (i : ℕ) (h : i < length us) where
   pub named-here : sameText t (unitText (getD us i G)) ≡ true → firstNamed t (drop i us) ≡ Named (getD us i G)

@@ -1,13 +1,10 @@
 -- Document 01, "The profile", the line on units: their texts, in its order.
 -- Assumes nothing.
-use Prim.Native.Nat.{ℕ, _-_}
+use Prim.Native.Nat.{ℕ}
 use mathlib.Core.Bool.{cond}
-use mathlib.Core.List.{List, [], _∷_, _++_}
-use lib.ListN.{length, replicate}
+use mathlib.Core.List.{List, [], _∷_}
 use Rattle.weight.specs.declared.units.WeightUnit.{WeightUnit}
 use Rattle.weight.specs.declared.units.WeightUnit.the-variants.{G, Mg, Ct, Oz, Ozt, Gn, Dwt}
-use Rattle.weight.specs.Ascii.{space}
-use Rattle.text.specs.declared.units.UnitText.{UnitText}
 use Rattle.text.specs.declared.units.UnitRead.{UnitRead}
 use Rattle.text.specs.declared.units.UnitRead.the-variants.{Named, Unknown}
 use Rattle.text.specs.Ascii.{ascii, sameText}
@@ -21,10 +18,6 @@ unitText Oz = ascii "oz"
 unitText Ozt = ascii "ozt"
 unitText Gn = ascii "GN"
 unitText Dwt = ascii "dwt"
-
--- the text in three cells, spaces after it
-abbrev pub unitCells : WeightUnit → UnitText
-unitCells u = record { cells = unitText u ++ replicate (3 - length (unitText u)) space; len = length (unitText u) }
 
 abbrev pub allUnits : List WeightUnit
 allUnits = G ∷ Mg ∷ Ct ∷ Oz ∷ Ozt ∷ Gn ∷ Dwt ∷ []

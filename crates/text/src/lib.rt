@@ -3,6 +3,7 @@
 mod field;
 mod reading;
 mod scanning;
+mod short;
 mod typed;
 mod units;
 
@@ -10,11 +11,13 @@ pub use field::Field;
 pub use field::field_of;
 pub use reading::FieldRead;
 pub use reading::read_field;
+pub use scanning::byte_at;
 pub use scanning::first_at;
+pub use scanning::part;
 pub use scanning::same_text;
+pub use short::ShortText;
 pub use typed::read_typed;
 pub use units::UnitRead;
-pub use units::UnitText;
 pub use units::is_unit;
 pub use units::read_unit;
 pub use units::unit_text;

@@ -1,5 +1,6 @@
-// Comparing texts, and searching them for a byte.
+// Comparing texts, searching them for a byte, and their bytes and parts. Past the end there are none.
 ghost use mathlib.Core.Path.{_≡_};
+ghost use lib.ListN.{getD, take, drop};
 ghost use Rattle.text.specs.Ascii.{sameText};
 ghost use Rattle.text.specs.Searching.{FirstAt};
 
@@ -31,4 +32,29 @@ pub fn first_at(text: &[u8], b: u8) -> usize
         i += 1;
     }
     i
+}
+
+// A byte; 0 past the end.
+pub fn byte_at(text: &[u8], i: usize) -> u8
+    ensures { λ r. ⌜ r ≡ getD (now (text .entry)) i 0 ⌝ }
+{
+    if i < text.len() {
+        return text[i];
+    }
+    0
+}
+
+// At most `count` bytes from `start` on.
+pub fn part(text: &[u8], start: usize, count: usize) -> &[u8]
+    ensures { λ r. ⌜ now r ≡ take count (drop start (now (text .entry))) ⌝ }
+{
+    let end = text.len();
+    if end <= start {
+        return &text[end..];
+    }
+    if end - start < count {
+        return &text[start..];
+    }
+    let stop = start + count;
+    &text[start..stop]
 }

@@ -1,15 +1,11 @@
 // The texts of the units.
 ghost use mathlib.Core.Path.{_≡_};
-ghost use Rattle.text.specs.Units.{unitText, unitCells, unitNamed};
 ghost use Rattle.text.specs.Ascii.{sameText};
+ghost use Rattle.text.specs.Short.{shortOf};
+ghost use Rattle.text.specs.Units.{unitText, unitNamed};
 use crate::scanning::same_text;
+use crate::short::ShortText;
 use weight::WeightUnit;
-
-// A unit's text: the first `len` cells, spaces after them.
-pub struct UnitText {
-    pub cells: [u8; 3],
-    pub len: usize,
-}
 
 // What a text is read as.
 pub enum UnitRead {
@@ -17,35 +13,35 @@ pub enum UnitRead {
     Unknown,
 }
 
-pub fn unit_text(unit: WeightUnit) -> UnitText
-    ensures { λ r. ⌜ r ≡ unitCells unit ⌝ }
+pub fn unit_text(unit: WeightUnit) -> ShortText
+    ensures { λ r. ⌜ r ≡ shortOf (unitText unit) ⌝ }
 {
     match unit {
-        WeightUnit::G => UnitText {
+        WeightUnit::G => ShortText {
             cells: [b'g', b' ', b' '],
             len: 1,
         },
-        WeightUnit::Mg => UnitText {
+        WeightUnit::Mg => ShortText {
             cells: [b'm', b'g', b' '],
             len: 2,
         },
-        WeightUnit::Ct => UnitText {
+        WeightUnit::Ct => ShortText {
             cells: [b'c', b't', b' '],
             len: 2,
         },
-        WeightUnit::Oz => UnitText {
+        WeightUnit::Oz => ShortText {
             cells: [b'o', b'z', b' '],
             len: 2,
         },
-        WeightUnit::Ozt => UnitText {
+        WeightUnit::Ozt => ShortText {
             cells: [b'o', b'z', b't'],
             len: 3,
         },
-        WeightUnit::Gn => UnitText {
+        WeightUnit::Gn => ShortText {
             cells: [b'G', b'N', b' '],
             len: 2,
         },
-        WeightUnit::Dwt => UnitText {
+        WeightUnit::Dwt => ShortText {
             cells: [b'd', b'w', b't'],
             len: 3,
         },

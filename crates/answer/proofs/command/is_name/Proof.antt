@@ -2,7 +2,9 @@
 -- Assumes nothing.
 use mathlib.Core.Path.{sym}
 use lib.Seq.{length-take-le}
-use Rattle.answer.proofs.Names.{cells-enough, cells-count, other-length, whole-word}
+use Rattle.text.proofs.Cells.{cells-enough, cells-count}
+use Rattle.answer.specs.Commands.{nameOf}
+use Rattle.answer.proofs.Names.{other-length, whole-word}
 use borrow.Author.Needs.{needs}
 use native.Mathlib.Omega.{arith}
 use Rattle.answer.proofs.command.is_name.Statement.{statement}
@@ -18,10 +20,10 @@ slice-aggregate-same-text : tie.Need-slice-aggregate-same-text
 slice-aggregate-same-text c = sym (length-take-le (c .before .before .before .name-of .result .len) (c .before .before .before .before .before .args .word .now) (omega arith))
 
 array-share-prefix-cells : tie.Need-array-share-prefix-cells
-array-share-prefix-cells c = cells-enough (c .before .before .before .name-of .result) (c .before .before .before .before .before .args .command) (c .before .before .before .name-of .ensures)
+array-share-prefix-cells c = cells-enough (c .before .before .before .name-of .result) (nameOf (c .before .before .before .before .before .args .command)) (c .before .before .before .name-of .ensures)
 
 slice-aggregate-same-text-2 : tie.Need-slice-aggregate-same-text-2
-slice-aggregate-same-text-2 c = cells-count (c .before .before .before .before .name-of .result) (c .before .before .before .before .before .before .args .command) (c .before .before .before .before .name-of .ensures)
+slice-aggregate-same-text-2 c = cells-count (c .before .before .before .before .name-of .result) (nameOf (c .before .before .before .before .before .before .args .command)) (c .before .before .before .before .name-of .ensures)
 
 same-text-requires : tie.Need-same-text-requires
 same-text-requires c κs = search needs

@@ -1,9 +1,5 @@
 -- `emit::emit::put_listed` meets its contract.
 -- Assumes nothing.
-use Prim.Native.Nat.{_+_}
-use mathlib.Core.List.{[], _∷_}
-use Rattle.answer.specs.Commands.{nameOf}
-use Rattle.answer.specs.Lines.{listedLine}
 use Rattle.emit.proofs.Laying.{laid-3, room-1-of-3, room-2-of-3, room-3-of-3}
 use Rattle.emit.proofs.Lines.{listed-pieces}
 use Rattle.answer.proofs.Names.{level-small}
@@ -29,14 +25,14 @@ put-requires c κs =
     let start = c .before .before .before .before .before in
     let status = c .before .before .listed-status in
     let level = c .before .before .before .level-of in
-    room-1-of-3 (start .args .out .now) (start .args .at) (73 ∷ 48 ∷ 32 ∷ status .result ∷ 32 ∷ (48 + level .result) ∷ 32 ∷ 34 ∷ []) (nameOf (start .args .command)) (34 ∷ 13 ∷ 10 ∷ []) (listedLine (start .args .last) (start .args .command)) (listed-pieces (start .args .last) (start .args .command) (status .result) (level .result) (status .ensures) (level .ensures)) (start .pre)
+    room-1-of-3 (start .args .out .now) (start .args .at) (listed-pieces (start .args .last) (start .args .command) (status .result) (level .result) (status .ensures) (level .ensures)) (start .pre)
 
 put-name-requires : tie.Need-put-name-requires
 put-name-requires c κs =
     let start = c .before .before .before .before .before .before .before .before .before in
     let status = c .before .before .before .before .before .before .listed-status in
     let level = c .before .before .before .before .before .before .before .level-of in
-    room-2-of-3 (start .args .out .now) (start .args .at) (73 ∷ 48 ∷ 32 ∷ status .result ∷ 32 ∷ (48 + level .result) ∷ 32 ∷ 34 ∷ []) (nameOf (start .args .command)) (34 ∷ 13 ∷ 10 ∷ []) (listedLine (start .args .last) (start .args .command)) (listed-pieces (start .args .last) (start .args .command) (status .result) (level .result) (status .ensures) (level .ensures)) (c .before .before .before .put .ensures) (start .pre)
+    room-2-of-3 (start .args .out .now) (start .args .at) (listed-pieces (start .args .last) (start .args .command) (status .result) (level .result) (status .ensures) (level .ensures)) (c .before .before .before .put .ensures) (start .pre)
 
 slice-aggregate-put-2 : tie.Need-slice-aggregate-put-2
 slice-aggregate-put-2 c = search needs
@@ -46,7 +42,7 @@ put-requires-2 c κs =
     let start = c .before .before .before .before .before .before .before .before .before .before .before .before .before .before in
     let status = c .before .before .before .before .before .before .before .before .before .before .before .listed-status in
     let level = c .before .before .before .before .before .before .before .before .before .before .before .before .level-of in
-    room-3-of-3 (start .args .out .now) (start .args .at) (73 ∷ 48 ∷ 32 ∷ status .result ∷ 32 ∷ (48 + level .result) ∷ 32 ∷ 34 ∷ []) (nameOf (start .args .command)) (34 ∷ 13 ∷ 10 ∷ []) (listedLine (start .args .last) (start .args .command)) (listed-pieces (start .args .last) (start .args .command) (status .result) (level .result) (status .ensures) (level .ensures)) (c .before .before .before .before .before .before .before .before .put .ensures) (c .before .before .before .before .put-name .ensures) (start .pre)
+    room-3-of-3 (start .args .out .now) (start .args .at) (listed-pieces (start .args .last) (start .args .command) (status .result) (level .result) (status .ensures) (level .ensures)) (c .before .before .before .before .before .before .before .before .put .ensures) (c .before .before .before .before .put-name .ensures) (start .pre)
 
 same-length : tie.Need-same-length
 same-length c = search needs
@@ -56,7 +52,7 @@ returns c =
     let start = c .before .before .before .before .before .before .before .before .before .before .before .before .before .before .before .before .before in
     let status = c .before .before .before .before .before .before .before .before .before .before .before .before .before .before .listed-status in
     let level = c .before .before .before .before .before .before .before .before .before .before .before .before .before .before .before .level-of in
-    laid-3 (start .args .out .now) (start .args .at) (73 ∷ 48 ∷ 32 ∷ status .result ∷ 32 ∷ (48 + level .result) ∷ 32 ∷ 34 ∷ []) (nameOf (start .args .command)) (34 ∷ 13 ∷ 10 ∷ []) (listedLine (start .args .last) (start .args .command)) (listed-pieces (start .args .last) (start .args .command) (status .result) (level .result) (status .ensures) (level .ensures)) (c .before .before .before .before .before .before .before .before .before .before .before .put .ensures) (c .before .before .before .before .before .before .before .put-name .ensures) (c .before .before .put2 .ensures)
+    laid-3 (start .args .out .now) (start .args .at) (listed-pieces (start .args .last) (start .args .command) (status .result) (level .result) (status .ensures) (level .ensures)) (c .before .before .before .before .before .before .before .before .before .before .before .put .ensures) (c .before .before .before .before .before .before .before .put-name .ensures) (c .before .before .put2 .ensures)
 
 pub put-listed-spec : {M : Type 1} → statement M
 put-listed-spec =

@@ -1,9 +1,6 @@
 -- `emit::emit::put_plain` meets its contract.
 -- Assumes nothing.
-use mathlib.Core.List.{[], _∷_, _++_}
-use Rattle.answer.specs.Commands.{nameOf}
-use Rattle.answer.specs.Lines.{headText, lineEnd}
-use Rattle.emit.proofs.Laying.{laid-laid, room-first, room-next}
+use Rattle.emit.proofs.Laying.{laid-2, room-1-of-2, room-2-of-2}
 use Rattle.emit.proofs.Lines.{plain-pieces}
 use borrow.Author.Needs.{needs}
 use Rattle.emit.proofs.emit.put_plain.Statement.{statement}
@@ -16,7 +13,7 @@ put-name-requires : tie.Need-put-name-requires
 put-name-requires c κs =
     let start = c .before .before .before in
     let byte = c .before .status-byte in
-    room-first (start .args .out .now) (start .args .at) (nameOf (start .args .head .identification)) (32 ∷ byte .result ∷ 13 ∷ 10 ∷ []) (headText (start .args .head) ++ lineEnd) (plain-pieces (start .args .head) (byte .result) (byte .ensures)) (start .pre)
+    room-1-of-2 (start .args .out .now) (start .args .at) (plain-pieces (start .args .head) (byte .result) (byte .ensures)) (start .pre)
 
 slice-aggregate-put : tie.Need-slice-aggregate-put
 slice-aggregate-put c = search needs
@@ -25,7 +22,7 @@ put-requires : tie.Need-put-requires
 put-requires c κs =
     let start = c .before .before .before .before .before .before .before .before in
     let byte = c .before .before .before .before .before .before .status-byte in
-    room-next (start .args .out .now) (start .args .at) (nameOf (start .args .head .identification)) (32 ∷ byte .result ∷ 13 ∷ 10 ∷ []) (headText (start .args .head) ++ lineEnd) (plain-pieces (start .args .head) (byte .result) (byte .ensures)) (c .before .before .before .before .put-name .ensures) (start .pre)
+    room-2-of-2 (start .args .out .now) (start .args .at) (plain-pieces (start .args .head) (byte .result) (byte .ensures)) (c .before .before .before .before .put-name .ensures) (start .pre)
 
 same-length : tie.Need-same-length
 same-length c = search needs
@@ -34,7 +31,7 @@ returns : tie.Need-returns
 returns c =
     let start = c .before .before .before .before .before .before .before .before .before .before .before in
     let byte = c .before .before .before .before .before .before .before .before .before .status-byte in
-    laid-laid (start .args .out .now) (start .args .at) (nameOf (start .args .head .identification)) (32 ∷ byte .result ∷ 13 ∷ 10 ∷ []) (headText (start .args .head) ++ lineEnd) (plain-pieces (start .args .head) (byte .result) (byte .ensures)) (c .before .before .before .before .before .before .before .put-name .ensures) (c .before .before .put .ensures)
+    laid-2 (start .args .out .now) (start .args .at) (plain-pieces (start .args .head) (byte .result) (byte .ensures)) (c .before .before .before .before .before .before .before .put-name .ensures) (c .before .before .put .ensures)
 
 pub put-plain-spec : {M : Type 1} → statement M
 put-plain-spec =

@@ -1,9 +1,6 @@
 -- `emit::emit::put_weight` meets its contract.
 -- Assumes nothing.
-use mathlib.Core.List.{[], _∷_, _++_}
-use Rattle.text.specs.Ascii.{ascii}
-use Rattle.answer.specs.Commands.{nameOf}
-use Rattle.answer.specs.Lines.{lineEnd, headText, weightText}
+use Rattle.answer.specs.Lines.{weightText}
 use Rattle.emit.proofs.Laying.{laid-4, room-1-of-4, room-2-of-4, room-3-of-4, room-4-of-4}
 use Rattle.emit.proofs.Lines.{weight-pieces}
 use borrow.Author.Needs.{needs}
@@ -17,7 +14,7 @@ put-name-requires : tie.Need-put-name-requires
 put-name-requires c κs =
     let start = c .before .before .before in
     let byte = c .before .status-byte in
-    room-1-of-4 (start .args .out .now) (start .args .at) (nameOf (start .args .head .identification)) (32 ∷ byte .result ∷ 32 ∷ []) (weightText (start .args .number)) lineEnd (headText (start .args .head) ++ ascii " " ++ weightText (start .args .number) ++ lineEnd) (weight-pieces (start .args .head) (weightText (start .args .number)) (byte .result) (byte .ensures)) (start .pre)
+    room-1-of-4 (start .args .out .now) (start .args .at) (weight-pieces (start .args .head) (weightText (start .args .number)) (byte .result) (byte .ensures)) (start .pre)
 
 slice-aggregate-put : tie.Need-slice-aggregate-put
 slice-aggregate-put c = search needs
@@ -26,13 +23,13 @@ put-requires : tie.Need-put-requires
 put-requires c κs =
     let start = c .before .before .before .before .before .before .before .before in
     let byte = c .before .before .before .before .before .before .status-byte in
-    room-2-of-4 (start .args .out .now) (start .args .at) (nameOf (start .args .head .identification)) (32 ∷ byte .result ∷ 32 ∷ []) (weightText (start .args .number)) lineEnd (headText (start .args .head) ++ ascii " " ++ weightText (start .args .number) ++ lineEnd) (weight-pieces (start .args .head) (weightText (start .args .number)) (byte .result) (byte .ensures)) (c .before .before .before .before .put-name .ensures) (start .pre)
+    room-2-of-4 (start .args .out .now) (start .args .at) (weight-pieces (start .args .head) (weightText (start .args .number)) (byte .result) (byte .ensures)) (c .before .before .before .before .put-name .ensures) (start .pre)
 
 put-number-requires : tie.Need-put-number-requires
 put-number-requires c κs =
     let start = c .before .before .before .before .before .before .before .before .before .before .before .before in
     let byte = c .before .before .before .before .before .before .before .before .before .before .status-byte in
-    room-3-of-4 (start .args .out .now) (start .args .at) (nameOf (start .args .head .identification)) (32 ∷ byte .result ∷ 32 ∷ []) (weightText (start .args .number)) lineEnd (headText (start .args .head) ++ ascii " " ++ weightText (start .args .number) ++ lineEnd) (weight-pieces (start .args .head) (weightText (start .args .number)) (byte .result) (byte .ensures)) (c .before .before .before .before .before .before .before .before .put-name .ensures) (c .before .before .before .put .ensures) (start .pre)
+    room-3-of-4 (start .args .out .now) (start .args .at) (weight-pieces (start .args .head) (weightText (start .args .number)) (byte .result) (byte .ensures)) (c .before .before .before .before .before .before .before .before .put-name .ensures) (c .before .before .before .put .ensures) (start .pre)
 
 slice-aggregate-put-2 : tie.Need-slice-aggregate-put-2
 slice-aggregate-put-2 c = search needs
@@ -41,7 +38,7 @@ put-requires-2 : tie.Need-put-requires-2
 put-requires-2 c κs =
     let start = c .before .before .before .before .before .before .before .before .before .before .before .before .before .before .before .before .before in
     let byte = c .before .before .before .before .before .before .before .before .before .before .before .before .before .before .before .status-byte in
-    room-4-of-4 (start .args .out .now) (start .args .at) (nameOf (start .args .head .identification)) (32 ∷ byte .result ∷ 32 ∷ []) (weightText (start .args .number)) lineEnd (headText (start .args .head) ++ ascii " " ++ weightText (start .args .number) ++ lineEnd) (weight-pieces (start .args .head) (weightText (start .args .number)) (byte .result) (byte .ensures)) (c .before .before .before .before .before .before .before .before .before .before .before .before .before .put-name .ensures) (c .before .before .before .before .before .before .before .before .put .ensures) (c .before .before .before .before .put-number .ensures) (start .pre)
+    room-4-of-4 (start .args .out .now) (start .args .at) (weight-pieces (start .args .head) (weightText (start .args .number)) (byte .result) (byte .ensures)) (c .before .before .before .before .before .before .before .before .before .before .before .before .before .put-name .ensures) (c .before .before .before .before .before .before .before .before .put .ensures) (c .before .before .before .before .put-number .ensures) (start .pre)
 
 same-length : tie.Need-same-length
 same-length c = search needs
@@ -50,7 +47,7 @@ returns : tie.Need-returns
 returns c =
     let start = c .before .before .before .before .before .before .before .before .before .before .before .before .before .before .before .before .before .before .before .before in
     let byte = c .before .before .before .before .before .before .before .before .before .before .before .before .before .before .before .before .before .before .status-byte in
-    laid-4 (start .args .out .now) (start .args .at) (nameOf (start .args .head .identification)) (32 ∷ byte .result ∷ 32 ∷ []) (weightText (start .args .number)) lineEnd (headText (start .args .head) ++ ascii " " ++ weightText (start .args .number) ++ lineEnd) (weight-pieces (start .args .head) (weightText (start .args .number)) (byte .result) (byte .ensures)) (c .before .before .before .before .before .before .before .before .before .before .before .before .before .before .before .before .put-name .ensures) (c .before .before .before .before .before .before .before .before .before .before .before .put .ensures) (c .before .before .before .before .before .before .before .put-number .ensures) (c .before .before .put2 .ensures)
+    laid-4 (start .args .out .now) (start .args .at) (weight-pieces (start .args .head) (weightText (start .args .number)) (byte .result) (byte .ensures)) (c .before .before .before .before .before .before .before .before .before .before .before .before .before .before .before .before .put-name .ensures) (c .before .before .before .before .before .before .before .before .before .before .before .put .ensures) (c .before .before .before .before .before .before .before .put-number .ensures) (c .before .before .put2 .ensures)
 
 pub put-weight-spec : {M : Type 1} → statement M
 put-weight-spec =

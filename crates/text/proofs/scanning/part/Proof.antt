@@ -1,9 +1,9 @@
--- `host::scan::part` meets its contract.
+-- `text::scanning::part` meets its contract.
 -- Assumes nothing.
 use borrow.Author.Needs.{needs}
-use Rattle.host.proofs.Scanning.{part-none, part-rest, part-whole}
-use Rattle.host.proofs.scan.part.Statement.{statement}
-use Rattle.host.proofs.scan.part.Tie as tie
+use Rattle.text.proofs.Parts.{part-none, part-rest, part-whole}
+use Rattle.text.proofs.scanning.part.Statement.{statement}
+use Rattle.text.proofs.scanning.part.Tie as tie
 
 sub-result : tie.Need-sub-result
 sub-result c = search needs

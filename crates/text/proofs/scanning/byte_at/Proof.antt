@@ -1,9 +1,9 @@
--- `host::scan::byte_at` meets its contract.
+-- `text::scanning::byte_at` meets its contract.
 -- Assumes nothing.
 use borrow.Author.Needs.{needs}
-use Rattle.host.proofs.Scanning.{byte-past}
-use Rattle.host.proofs.scan.byte_at.Statement.{statement}
-use Rattle.host.proofs.scan.byte_at.Tie as tie
+use Rattle.text.proofs.Parts.{byte-past}
+use Rattle.text.proofs.scanning.byte_at.Statement.{statement}
+use Rattle.text.proofs.scanning.byte_at.Tie as tie
 
 shared-slice-read-result : tie.Need-shared-slice-read-result
 shared-slice-read-result c = search needs

@@ -1,2 +1,2 @@
-pub mod Ranges
 pub mod Reactions
+pub mod Shown

@@ -4,7 +4,7 @@ ghost use mathlib.Core.Bool.{true};
 ghost use mathlib.Core.List.{_++_};
 ghost use Prim.Native.Nat.{_≤_};
 ghost use lib.ListN.{length, drop};
-ghost use Rattle.commands.specs.Ranges.{showsShort};
+ghost use Rattle.commands.specs.Shown.{showsShort};
 ghost use Rattle.commands.specs.Reactions as meaning;
 ghost use Rattle.waiting.specs.Waits as waits;
 ghost use Rattle.weighing.specs.Weighings as weights;

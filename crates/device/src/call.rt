@@ -5,7 +5,7 @@ ghost use mathlib.Core.Path.{_≡_};
 ghost use mathlib.Core.Bool.{true};
 ghost use Rattle.device.specs.Calls.{refusedCall, takenCall, DeliveredCall, PowerOnCalled, ByteCalled, SampleCalled};
 ghost use Rattle.model.specs.Profiles.{profileAllowed};
-use crate::deliver::emit_due;
+use crate::buffer::emit_due;
 use answer::Answer;
 use commands::line_reaction;
 use line::receive_byte;

@@ -1,7 +1,7 @@
 // The device: the three calls.
 // The crates above use the promises of the functions named here and the laws of proofs/.
+mod buffer;
 mod call;
-mod deliver;
 
 pub use call::Called;
 pub use call::power_on;

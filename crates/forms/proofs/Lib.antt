@@ -1,3 +1,2 @@
 pub mod Forming
 pub mod Places
-mod Signs

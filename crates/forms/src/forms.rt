@@ -1,7 +1,6 @@
 // The answers whose line can be formed.
 ghost use mathlib.Core.Path.{_≡_};
 ghost use mathlib.Core.Bool.{_||_};
-ghost use lib.Signed.{nonNeg};
 ghost use Rattle.forms.specs.Forms.{isS, isZ, isZI, isT, isTI, plainForm, weightForm, numberForm, textForm, canForm};
 use answer::Answer;
 use answer::D;
@@ -24,8 +23,8 @@ use answer::TI;
 use answer::Z;
 use answer::ZI;
 use line::is_printable;
-use weight::LastPlaces;
 use weight::fits;
+use weight::is_below_zero;
 
 const SHORT_TEXT: usize = 20;
 
@@ -74,18 +73,12 @@ fn weight_form(head: Head) -> bool
     }
 }
 
-fn not_below_zero(places: LastPlaces) -> bool
-    ensures { λ r. ⌜ r ≡ nonNeg (places .0) ⌝ }
-{
-    0 <= places.0
-}
-
 // Only a weight of S may be below zero.
 fn number_form(command: u8, number: Number) -> bool
     ensures { λ r. ⌜ r ≡ numberForm command number ⌝ }
 {
     let places = number.places;
-    fits(number.decimals, places) & ((command == S) | not_below_zero(places))
+    fits(number.decimals, places) & ((command == S) | !is_below_zero(places))
 }
 
 // The texts of I2 and I3 may be longer than those of I4 and I5.

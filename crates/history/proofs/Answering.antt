@@ -52,7 +52,7 @@ module _ (p : Profile) (t : Tally) (i : Input) (w : Weighing) (not-reset : after
 
   -- ---- Z, ZI
 
-  zero-granted : (l : List ℕ) → Zeroes l → w .sampled ≡ true → Answered p t i (withZero w (w .load .0)) l
+  zero-granted : (l : List ℕ) → Zeroes l → w .sampled ≡ true → Answered p t i (withZero w) l
   zero-granted l k sampled =
       record {
         accepted = zeroes-holds p t i l k (is-loaded w (taken t i) f sampled);
@@ -66,7 +66,7 @@ module _ (p : Profile) (t : Tally) (i : Input) (w : Weighing) (not-reset : after
       : (over under : Bool) (c : ℕ) (granted : Status)
       → Zeroes (answerBytes p (Plain (headOf c granted)))
       → w .sampled ≡ true
-      → Answered p t i (chosenWeighing (over || under) w (withZero w (w .load .0))) (answerBytes p (inLimits c over under (Plain (headOf c granted))))
+      → Answered p t i (chosenWeighing (over || under) w (withZero w)) (answerBytes p (inLimits c over under (Plain (headOf c granted))))
   zeroed-by true under c granted k sampled = answered-quietly _ (denied-silent p c Over refl)
   zeroed-by false true c granted k sampled = answered-quietly _ (denied-silent p c Under refl)
   zeroed-by false false c granted k sampled = zero-granted _ k sampled

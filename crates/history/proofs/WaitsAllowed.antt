@@ -68,7 +68,7 @@ module _ (p : Profile) (w : Weighing) (old : InRanges p w) where
   tare-moved n h = record { ranges = record { zero = old .zero; tare = le-leb n (p .capacity) h }; sampled = refl }
 
   zeroed-by : (over under : Bool) → ltZ (pos (p .zeroing)) (w .load .0) ≡ over → ltZ (w .load .0) (negℤ (pos (p .zeroing))) ≡ under
-      → Moved p w (chosenWeighing (over || under) w (withZero w (w .load .0)))
+      → Moved p w (chosenWeighing (over || under) w (withZero w))
   zeroed-by true under o u = unmoved
   zeroed-by false true o u = unmoved
   zeroed-by false false o u =

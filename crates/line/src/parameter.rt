@@ -17,7 +17,7 @@ const QUOTE: u8 = 34;
 const LONGEST_SHOWN: usize = 20;
 
 // A text that D takes.
-pub fn is_shown(text: &[u8]) -> bool
+fn is_shown(text: &[u8]) -> bool
     ensures { λ r. ⌜ r ≡ isShown (now (text .entry)) ⌝ }
 {
     if LONGEST_SHOWN < text.len() {

@@ -92,7 +92,7 @@ module _ (p : Profile) (w : Weighing) {load : ℤ} (g : load ≡ w .load .0) whe
       → under ≡ ltZ load (negℤ (pos (p .zeroing)))
       → under ≡ false
       → a ≡ Plain (headOf c granted)
-      → v ≡ withZero w (w .load .0)
+      → v ≡ withZero w
       → record { weighing = v; answer = a } ≡ zeroed p w c granted
   unfolding zeroed
   zeroed-load c granted e t f u r v = rw (v, r, ← g, ← e, t, ← f, u)

@@ -81,8 +81,9 @@ weighed p w =
     inLimits placeS (ltZ (pos (p .capacity)) (grossOf w)) (ltZ (grossOf w) (negℤ (pos (p .underload))))
     (Weight (headOf placeS (stability w)) (numberOf p (netOf w)))
 
-abbrev pub withZero : Weighing → ℤ → Weighing
-withZero w zero = record { zero = record { 0 = zero }; tare = record { 0 = 0 }; sampled = w .sampled; load = w .load; stable = w .stable }
+-- zero becomes the load, and tare becomes 0
+abbrev pub withZero : Weighing → Weighing
+withZero w = record { zero = w .load; tare = record { 0 = 0 }; sampled = w .sampled; load = w .load; stable = w .stable }
 
 abbrev pub withTare : Weighing → ℕ → Weighing
 withTare w tare = record { zero = w .zero; tare = record { 0 = tare }; sampled = w .sampled; load = w .load; stable = w .stable }
@@ -96,7 +97,7 @@ zeroed p w c granted =
     let over = ltZ (pos (p .zeroing)) (w .load .0) in
     let under = ltZ (w .load .0) (negℤ (pos (p .zeroing))) in
     record {
-      weighing = chosenWeighing (over || under) w (withZero w (w .load .0));
+      weighing = chosenWeighing (over || under) w (withZero w);
       answer = inLimits c over under (Plain (headOf c granted));
     }
 

@@ -125,7 +125,7 @@ pub fn weighed(profile: Profile, weighing: Weighing) -> Answer
 
 // Zero becomes the load, and tare becomes 0.
 fn with_zero(weighing: Weighing) -> Weighing
-    ensures { λ r. ⌜ r ≡ meaning.withZero weighing (weighing .load .0) ⌝ }
+    ensures { λ r. ⌜ r ≡ meaning.withZero weighing ⌝ }
 {
     let load = weighing.load;
     Weighing {

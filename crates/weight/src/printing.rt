@@ -19,7 +19,7 @@ pub struct Printed {
     pub places: LastPlaces,
 }
 
-// More micrograms than a load, a zero and a tare can give.
+// More micrograms than a load with a zero and a tare in their ranges can give.
 const NET_LIMIT: u64 = 5_000_000_000;
 
 // Twice 10^8: beside a minus and a point ten characters hold eight digits.

@@ -1,4 +1,4 @@
-// The answer due goes into the lent buffer, or is refused for want of room. Nothing else touches the buffer.
+// The answer due is laid into the lent buffer with the text that goes with it, if there is room. Nothing else touches the buffer.
 ghost use mathlib.Core.Path.{_≡_};
 ghost use mathlib.Core.Bool.{true};
 ghost use Prim.Native.Nat.{_≤_};

@@ -4,8 +4,8 @@ use lib.ListN.{length}
 use Rattle.model.specs.Profiles.{textOf20, textOf40}
 use Rattle.model.proofs.ProfileFacts.{allowed-profile}
 use Rattle.device.proofs.Delivery.{bytes-model, bytes-software, bytes-serial, bytes-identity, bytes-plain, short}
-use Rattle.device.proofs.deliver.emit_due.Statement.{statement}
-use Rattle.device.proofs.deliver.emit_due.Tie as tie
+use Rattle.device.proofs.buffer.emit_due.Statement.{statement}
+use Rattle.device.proofs.buffer.emit_due.Tie as tie
 
 identity-in-requires : tie.Need-identity-in-requires
 identity-in-requires c κs = search needs

@@ -1,4 +1,4 @@
--- What the inner functions may assume of a verdict.
+-- What is assumed of a verdict where its text is shown; the judgement sees to it.
 -- Assumes nothing.
 use mathlib.Core.Bool.{Bool, true}
 use lib.Dec.{leb}

@@ -1,8 +1,8 @@
 use mathlib.Core.Path.{sym}
 use borrow.Author.Needs.{needs}
 use lib.Seq.{length-take-le}
-use Rattle.device.proofs.deliver.emit_with.Statement.{statement}
-use Rattle.device.proofs.deliver.emit_with.Tie as tie
+use Rattle.device.proofs.buffer.emit_with.Statement.{statement}
+use Rattle.device.proofs.buffer.emit_with.Tie as tie
 
 slice-aggregate-emit-answer : tie.Need-slice-aggregate-emit-answer
 slice-aggregate-emit-answer c =

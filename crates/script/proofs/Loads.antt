@@ -4,13 +4,13 @@ use mathlib.Core.Path.{_≡_, sym, _∙_}
 use mathlib.Core.List.{List}
 use Prim.Native.Nat.{ℕ, zero, suc, _≤_, _<_, _^_}
 use native.Mathlib.Omega.{arith}
-use lib.IntN.{pos, negℤ, _-ℤ_, +ℤ-idl}
+use lib.IntN.{pos, negℤ, _-ℤ_}
 use mir.Syntax.{w32, w64}
 use mir.Val.{SFits, toZ, ofZ}
 use mir.Facts.{toZ-ofZ, toZ-pos, sfits-lit}
 use lib.ListN.{getD, drop}
 use borrow.Author.Tests.{eq-eqb, ne-eqb, lt-ltb, le-ltb}
-use Rattle.weight.proofs.Machine.{opposite-fits}
+use Rattle.weight.proofs.Machine.{opposite-gives}
 use Rattle.script.specs.declared.number.LoadRead.{LoadRead}
 use Rattle.script.specs.declared.number.LoadRead.the-variants.{Within, Beyond}
 use Rattle.script.specs.Numbers.{numberOf, aboveZero, belowZero, loadOf}
@@ -34,20 +34,14 @@ module _ (n : ℕ) where
     above-small = rw (le-ltb 2_147_483_647 n h, toZ-pos w32 small)
 
   module _ (h : n ≤ 2_147_483_648) where
-    wide : n < 2 ^ 63
+    pub wide : n < 2 ^ 63
     wide = omega arith
 
-    opposite-is : toZ w64 (ofZ w64 (pos 0 -ℤ toZ w64 n)) ≡ negℤ (pos n)
-    opposite-is = rw (toZ-pos w64 wide, +ℤ-idl) (toZ-ofZ (opposite-fits n wide))
-
-    pub opposite-asks : SFits w64 (pos 0 -ℤ toZ w64 n)
-    opposite-asks = rw (toZ-pos w64 wide, +ℤ-idl) (opposite-fits n wide)
-
     pub load-asks : SFits w32 (toZ w64 (ofZ w64 (pos 0 -ℤ toZ w64 n)))
-    load-asks = rw opposite-is (load-fits n h)
+    load-asks = rw (opposite-gives n wide) (load-fits n h)
 
     pub below-small : Within (record { 0 = toZ w32 (ofZ w32 (toZ w64 (ofZ w64 (pos 0 -ℤ toZ w64 n)))) }) ≡ belowZero n
-    below-small = rw (le-ltb 2_147_483_648 n h, opposite-is, toZ-ofZ (load-fits n h))
+    below-small = rw (le-ltb 2_147_483_648 n h, opposite-gives n wide, toZ-ofZ (load-fits n h))
 
 -- ---- a number that may have a minus
 

@@ -1,7 +1,8 @@
 -- `script::number::below_zero` meets its contract.
 -- Assumes nothing.
 use borrow.Author.Needs.{needs}
-use Rattle.script.proofs.Loads.{below-large, below-small, load-asks, opposite-asks}
+use Rattle.weight.proofs.Machine.{opposite-asks}
+use Rattle.script.proofs.Loads.{below-large, below-small, load-asks, wide}
 use Rattle.script.proofs.number.below_zero.Statement.{statement}
 use Rattle.script.proofs.number.below_zero.Tie as tie
 
@@ -12,7 +13,7 @@ cast-amount : tie.Need-cast-amount
 cast-amount c = search needs
 
 sub-t4 : tie.Need-sub-t4
-sub-t4 c = search (needs, opposite-asks)
+sub-t4 c = search (needs, opposite-asks, wide)
 
 cast-t5 : tie.Need-cast-t5
 cast-t5 c = search (needs, load-asks)

@@ -1,4 +1,4 @@
--- Which answers have bytes: all but Nothing.
+-- Which answers have bytes: all but Nothing; and those of S, Z and T at a stable sample.
 -- Assumes nothing.
 use mathlib.Core.Path.{_≡_, refl}
 use mathlib.Core.Bool.{Bool, true, false, cond}
@@ -14,12 +14,13 @@ use Rattle.model.specs.declared.profile.Profile.{Profile}
 use Rattle.model.specs.declared.weighing.Weighing.{Weighing}
 use Rattle.device.specs.Calls.{answerBytes}
 use Rattle.model.specs.Profiles.{identityText}
-use Rattle.weighing.specs.Weighings.{placeS, grossOf, netOf, headOf, numberOf, stability, inLimits, weighed, zeroed, tared}
+use Rattle.weighing.specs.Weighings.{placeS, placeZ, placeT, grossOf, netOf, headOf, numberOf, stability, inLimits, weighed, zeroed, tared}
+use Rattle.answer.specs.declared.answer.Number.{Number}
 use Rattle.answer.specs.declared.answer.Status.{Status}
-use Rattle.answer.specs.declared.answer.Status.the-variants.{Over, Under}
+use Rattle.answer.specs.declared.answer.Status.the-variants.{A, S, Over, Under}
 use Rattle.weight.specs.Ascii.{digit}
 use Rattle.text.specs.Ascii.{ascii}
-use Rattle.history.specs.Waits.{isEmpty}
+use Rattle.history.specs.Waits.{isEmpty, settles}
 
 -- nothing is sent
 abbrev pub isSilent : Answer → Bool
@@ -85,3 +86,35 @@ module _ (p : Profile) (w : Weighing) where
       in-limits IsSent c (ltZ (pos (p .capacity)) (grossOf w)) (ltZ (grossOf w) (pos 0))
       (Weight (headOf c (stability w)) (numberOf p (grossOf w)))
       refl refl (λ o u. refl)
+
+-- ---- at a stable sample each is an answer of the command itself
+
+-- a name's answer with a limit's status
+abbrev Own : Profile → List ℕ → Answer → Type 0
+Own p name a = settles name (answerBytes p a) ≡ true
+
+-- S S, T S: the head of a weight says whose it is
+weight-own : (p : Profile) (n : Number) → Own p (ascii "S") (Weight (headOf placeS S) n) × Own p (ascii "T") (Weight (headOf placeT S) n)
+unfolding answerBytes lineOf headText
+weight-own p n = (refl, refl)
+
+module _ (p : Profile) (w : Weighing) where
+  pub weighed-own : w .stable ≡ true → Own p (ascii "S") (weighed p w)
+  unfolding weighed answerBytes lineOf headText
+  weighed-own stable =
+      in-limits (Own p (ascii "S")) placeS (ltZ (pos (p .capacity)) (grossOf w)) (ltZ (grossOf w) (negℤ (pos (p .underload))))
+      (Weight (headOf placeS (stability w)) (numberOf p (netOf w)))
+      refl refl (λ o u. rw stable (weight-own p (numberOf p (netOf w)) .0))
+
+  pub zeroed-own : Own p (ascii "Z") (zeroed p w placeZ A .answer)
+  unfolding zeroed answerBytes lineOf headText
+  zeroed-own =
+      in-limits (Own p (ascii "Z")) placeZ (ltZ (pos (p .zeroing)) (w .load .0)) (ltZ (w .load .0) (negℤ (pos (p .zeroing)))) (Plain (headOf placeZ A))
+      refl refl (λ o u. refl)
+
+  pub tared-own : w .stable ≡ true → Own p (ascii "T") (tared p w placeT .answer)
+  unfolding tared answerBytes lineOf headText
+  tared-own stable =
+      in-limits (Own p (ascii "T")) placeT (ltZ (pos (p .capacity)) (grossOf w)) (ltZ (grossOf w) (pos 0))
+      (Weight (headOf placeT (stability w)) (numberOf p (grossOf w)))
+      refl refl (λ o u. rw stable (weight-own p (numberOf p (grossOf w)) .1))

@@ -1,8 +1,8 @@
 -- One call's reaction against the record of waits: what is asked of its answer holds, and the record follows the state again.
 -- Assumes nothing.
 use mathlib.Core.Path.{_≡_, refl, sym, ap, _∙_}
-use mathlib.Core.Bool.{Bool, true, false, cond, not, _&&_, _||_, false≢true, and-false}
-use mathlib.Core.List.{List, [], _∷_}
+use mathlib.Core.Bool.{Bool, true, false, cond, not, _&&_, _||_, false≢true, true≢false}
+use mathlib.Core.List.{List, [], _∷_, map}
 use Prim.Native.Nat.{ℕ, suc, _+_, _<_, _≤_}
 use native.Mathlib.Omega.{arith}
 use borrow.Author.Tests.{leb-true, leb-false, eq-eqb, ne-eqb}
@@ -22,15 +22,15 @@ use Rattle.model.specs.States.{isPending, stateAllowed}
 use Rattle.weighing.specs.Weighings.{headOf, weighed, withSample}
 use Rattle.line.specs.declared.judge.Verdict.{Verdict}
 use Rattle.line.specs.declared.receive.Line.{Line}
-use Rattle.line.specs.Unbounded.{Marked, endsUnbounded, finishedLine, judgementOf}
+use Rattle.line.specs.Unbounded.{Marked, byteIn, endsUnbounded, finishedLine, judgementOf}
 use Rattle.line.proofs.Kept.{Keeps}
 use Rattle.line.proofs.Verdicts.{run-line}
 use Rattle.model.proofs.StateFacts.{allowed-state}
 use Rattle.history.specs.Tally.{Input, byteIs, sampleIs, isResetLine}
-use Rattle.history.specs.Waits.{Waits, isEmpty, mayWait, isTimeout, afterLine, afterInput, byteHolds, inputHolds}
+use Rattle.history.specs.Waits.{Waits, nothing, command, isAwaiting, isEmpty, mayWait, afterLine, afterInput, byteHolds, awaitedHolds, inputHolds}
 use Rattle.history.proofs.WaitsAllowed.{by-choice}
 use Rattle.history.proofs.WaitsAnswer.{isSilent, silent-empty}
-use Rattle.history.proofs.WaitsPerformed.{Performed, answered, dropped, begins, settled-sent}
+use Rattle.history.proofs.WaitsPerformed.{Performed, answered, dropped, begins, awaitedOf, awaiting-is, settled-sent, settled-own}
 use Rattle.history.proofs.Verdicts.{resets, reset-test}
 
 -- ---- the definitions, by whether a line ended
@@ -44,17 +44,28 @@ module _ (p : Profile) (w : Waits) (m : Marked) (l : List ℕ) where
   after-joined e = rw (e, afterInput)
 
   holds-ended : endsUnbounded (w .line) m ≡ true
-      → inputHolds p w (byteIs m) l ≡ (not (isEmpty l) || (not (w .waiting) && mayWait (finishedLine (w .line))))
+      → inputHolds p w (byteIs m) l ≡ (not (isEmpty l) || (not (isAwaiting (w .waiting)) && mayWait (finishedLine (w .line))))
   holds-ended e = rw (e, byteHolds)
 
   holds-joined : endsUnbounded (w .line) m ≡ false → inputHolds p w (byteIs m) l ≡ isEmpty l
   holds-joined e = rw (e, byteHolds)
 
+-- where no command is pending, none is awaited
+none-awaited : (q : Pending) → isPending q ≡ false → awaitedOf q ≡ nothing
+none-awaited Nothing e = refl
+none-awaited Weigh e = absurd (true≢false e)
+none-awaited Zero e = absurd (true≢false e)
+none-awaited Tare e = absurd (true≢false e)
+
+nothing-stays : (b : Bool) → cond b nothing nothing ≡ nothing
+nothing-stays true = refl
+nothing-stays false = refl
+
 -- the record of waits follows the state
 pub record Follows (p : Profile) (s : State) (w : Waits) : Type 0 where
   pub allowed : stateAllowed p s ≡ true
   pub line : Keeps (s .line) (w .line)
-  pub waiting : w .waiting ≡ isPending (s .waiting .pending)
+  pub waiting : w .waiting ≡ awaitedOf (s .waiting .pending)
   pub counted : isPending (s .waiting .pending) ≡ true → w .unstable ≡ s .waiting .unstable
 
 -- a reaction x to the input i
@@ -67,7 +78,7 @@ pub record Reacts (p : Profile) (w : Waits) (i : Input) (x : Reaction) : Type 0 
 module _ (p : Profile) (s : State) (w : Waits) (m : Marked) (x : Reaction) (old : Follows p s w)
     (allowed : stateAllowed p (x .state) ≡ true) (empty : Keeps (x .state .line) []) (ends : endsUnbounded (w .line) m ≡ true) where
   -- it was answered
-  sent-reacts : isSilent (x .answer) ≡ false → cond (isResetLine (finishedLine (w .line))) false (w .waiting) ≡ isPending (x .state .waiting .pending)
+  sent-reacts : isSilent (x .answer) ≡ false → cond (isResetLine (finishedLine (w .line))) nothing (w .waiting) ≡ awaitedOf (x .state .waiting .pending)
       → (isPending (x .state .waiting .pending) ≡ true → w .unstable ≡ x .state .waiting .unstable) → Reacts p w (byteIs m) x
   sent-reacts sent waiting counted =
       let full : isEmpty (answerBytes p (x .answer)) ≡ false = silent-empty p (x .answer) ∙ sent in
@@ -84,12 +95,12 @@ module _ (p : Profile) (s : State) (w : Waits) (m : Marked) (x : Reaction) (old 
       → isSilent (x .answer) ≡ true
       → isPending (s .waiting .pending) ≡ false
       → mayWait (finishedLine (w .line)) ≡ true
-      → isPending pending ≡ true
+      → awaitedOf pending ≡ command (map byteIn (finishedLine (w .line)))
       → x .state .waiting ≡ record { pending = pending; unstable = 0 }
       → Reacts p w (byteIs m) x
   begins-reacts pending noreset silent free may waits now =
       let none : isEmpty (answerBytes p (x .answer)) ≡ true = silent-empty p (x .answer) ∙ silent in
-      let before : w .waiting ≡ false = old .waiting ∙ free in
+      let before : w .waiting ≡ nothing = old .waiting ∙ none-awaited (s .waiting .pending) free in
       record {
         holds = rw (holds-ended p w m (answerBytes p (x .answer)) ends, none, before, may);
         next =
@@ -129,7 +140,7 @@ module _ (p : Profile) (s : State) (w : Waits) (m : Marked) (x : Reaction) (old 
       silent
       (was .free)
       (rw (was .line .good, was .line .bytes) named)
-      waits
+      (rw (was .line .bytes) waits)
       now
 
 -- ---- a byte that ends no line
@@ -147,14 +158,23 @@ joined-reacts p s w m l old allowed on keeps =
 
 -- ---- a sample
 
--- the answer that ends a wait is S I, T I or Z I
-timeout-answer : (p : Profile) (pending : Pending) → isPending pending ≡ true
-    → isTimeout (answerBytes p (answers.Plain (headOf (placeOfPending pending) I))) ≡ true
+-- the W-th unstable sample: S I, T I or Z I, as the command is that waits
+timeout-answer : (p : Profile) (n : ℕ) (pending : Pending) → suc n ≡ p .timeout
+    → awaitedHolds p n (awaitedOf pending) false (answerBytes p (answers.Plain (headOf (placeOfPending pending) I))) ≡ true
 unfolding answerBytes lineOf headText
-timeout-answer p Nothing e = absurd (false≢true e)
-timeout-answer p Weigh e = refl
-timeout-answer p Zero e = refl
-timeout-answer p Tare e = refl
+timeout-answer p n Nothing e = refl
+timeout-answer p n Weigh e = rw (eq-eqb (suc n) (p .timeout) e)
+timeout-answer p n Zero e = rw (eq-eqb (suc n) (p .timeout) e)
+timeout-answer p n Tare e = rw (eq-eqb (suc n) (p .timeout) e)
+
+-- one before it: no answer
+counted-answer : (p : Profile) (n : ℕ) (pending : Pending) → (suc n ≡ p .timeout → ⊥)
+    → awaitedHolds p n (awaitedOf pending) false (answerBytes p answers.Nothing) ≡ true
+unfolding answerBytes lineOf
+counted-answer p n Nothing e = refl
+counted-answer p n Weigh e = rw (ne-eqb (suc n) (p .timeout) e)
+counted-answer p n Zero e = rw (ne-eqb (suc n) (p .timeout) e)
+counted-answer p n Tare e = rw (ne-eqb (suc n) (p .timeout) e)
 
 timeout-full : (p : Profile) (c : ℕ) → isEmpty (answerBytes p (answers.Plain (headOf c I))) ≡ false
 timeout-full p c = silent-empty p (answers.Plain (headOf c I))
@@ -164,34 +184,36 @@ module _ (p : Profile) (s : State) (w : Waits) (z : Load) (stable : Bool) (old :
   free-reacts : (x : Reaction) → isPending (s .waiting .pending) ≡ false → x .state .waiting ≡ s .waiting → x .state .line ≡ s .line
       → stateAllowed p (x .state) ≡ true → Reacts p w (sampleIs (z .0) stable) x
   free-reacts x free same line allowed =
-      let none : w .waiting ≡ false = old .waiting ∙ free in
+      let none : w .waiting ≡ nothing = old .waiting ∙ none-awaited (s .waiting .pending) free in
       record {
         holds = rw none;
         next =
             record {
               allowed = allowed;
               line = rw line (old .line);
-              waiting = rw (none, same, free);
+              waiting = rw (none, same, none-awaited (s .waiting .pending) free, nothing-stays (isEmpty (answerBytes p (x .answer))));
               counted = rw (none, same) (old .counted);
             };
       }
 
   module _ (waits : isPending (s .waiting .pending) ≡ true) where
-    before : w .waiting ≡ true
-    before = old .waiting ∙ waits
+    before : isAwaiting (w .waiting) ≡ true
+    before = ap isAwaiting (old .waiting) ∙ awaiting-is (s .waiting .pending) ∙ waits
 
     -- a stable sample is answered, and the wait is over
-    stable-reacts : (x : Reaction) → stable ≡ true → isSilent (x .answer) ≡ false → x .state .waiting ≡ notWaiting → x .state .line ≡ s .line
+    stable-reacts : (x : Reaction) → stable ≡ true → isSilent (x .answer) ≡ false
+        → awaitedHolds p (w .unstable) (awaitedOf (s .waiting .pending)) true (answerBytes p (x .answer)) ≡ true
+        → x .state .waiting ≡ notWaiting → x .state .line ≡ s .line
         → stateAllowed p (x .state) ≡ true → Reacts p w (sampleIs (z .0) stable) x
-    stable-reacts x e sent none line allowed =
+    stable-reacts x e sent own none line allowed =
         let full : isEmpty (answerBytes p (x .answer)) ≡ false = silent-empty p (x .answer) ∙ sent in
         record {
-          holds = rw (before, e, full);
+          holds = rw (old .waiting, e) own;
           next =
               record {
                 allowed = allowed;
                 line = rw line (old .line);
-                waiting = rw (full, none, and-false (w .waiting));
+                waiting = rw (full, none);
                 counted = rw none (λ f. absurd (false≢true f));
               };
         }
@@ -206,12 +228,12 @@ module _ (p : Profile) (s : State) (w : Waits) (z : Load) (stable : Bool) (old :
         timeout-full p (placeOfPending (s .waiting .pending))
         in
         record {
-          holds = rw (before, e, eq-eqb (suc (w .unstable)) (p .timeout) count) (timeout-answer p (s .waiting .pending) waits);
+          holds = rw (old .waiting, e) (timeout-answer p (w .unstable) (s .waiting .pending) count);
           next =
               record {
                 allowed = allowed;
                 line = rw line (old .line);
-                waiting = rw (full, and-false (w .waiting));
+                waiting = rw full;
                 counted = λ f. absurd (false≢true f);
               };
         }
@@ -226,12 +248,12 @@ module _ (p : Profile) (s : State) (w : Waits) (z : Load) (stable : Bool) (old :
         let same : w .unstable ≡ s .waiting .unstable = old .counted waits in
         let not-last : suc (w .unstable) ≡ p .timeout → ⊥ = λ f. omega arith in
         record {
-          holds = rw (before, e, ne-eqb (suc (w .unstable)) (p .timeout) not-last);
+          holds = rw (old .waiting, e) (counted-answer p (w .unstable) (s .waiting .pending) not-last);
           next =
               record {
                 allowed = allowed;
                 line = rw line (old .line);
-                waiting = rw (before, waits);
+                waiting = old .waiting;
                 counted = λ f. rw (before, e) (omega arith);
               };
         }
@@ -252,6 +274,7 @@ sample-reacts p s w z stable old =
     (measuredReaction (withWaiting t notWaiting) (settled p (s .waiting .pending) (t .weighing)))
     e
     (settled-sent p (s .waiting .pending) (t .weighing) waits)
+    (settled-own p (w .unstable) (s .waiting .pending) (t .weighing) e)
     refl
     refl)
     (λ e.

@@ -1,25 +1,35 @@
 -- Beside demand 3, over the same lists of calls and from calls and answers alone: every ended line has its answer or waits, a wait
--- ends at a stable sample or at the W-th unstable one of the history, and no call is refused by 1 or 2.
+-- ends at a stable sample or at the W-th unstable one of the history with an answer of the command that waits, and no call is
+-- refused by 1 or 2.
 -- Assumes nothing.
 use Prim.Native.Nat.{ℕ, suc}
 use mathlib.Core.Path.{_≡_}
 use mathlib.Core.Bool.{Bool, true, false, cond, not, _&&_, _||_}
-use mathlib.Core.List.{List, [], _∷_, map}
+use mathlib.Core.List.{List, [], _∷_, _++_, map}
 use lib.Dec.{eqb}
 use Rattle.model.specs.declared.profile.Profile.{Profile}
 use Rattle.line.specs.Unbounded.{Marked, endsUnbounded, finishedLine, byteIn, anyFaulty}
 use Rattle.text.specs.Ascii.{ascii, sameText}
 use Rattle.history.specs.Claim.{OverCalls}
-use Rattle.history.specs.Tally.{Event, Input, byteIs, sampleIs, isResetLine}
+use Rattle.history.specs.Tally.{Event, Input, byteIs, sampleIs, isResetLine, begins}
 
--- the line so far, whether a command waits, and the unstable samples that came since it waits
+-- the command that waits, by its name
+pub data Awaited : Type 0 where
+  nothing : Awaited
+  command : List ℕ → Awaited
+
+abbrev pub isAwaiting : Awaited → Bool
+isAwaiting nothing = false
+isAwaiting (command name) = true
+
+-- the line so far, which command waits, and the unstable samples that came since it waits
 pub record Waits : Type 0 where
   pub line : List Marked
-  pub waiting : Bool
+  pub waiting : Awaited
   pub unstable : ℕ
 
 abbrev pub startWaits : Waits
-startWaits = record { line = []; waiting = false; unstable = 0 }
+startWaits = record { line = []; waiting = nothing; unstable = 0 }
 
 abbrev pub isEmpty : List ℕ → Bool
 isEmpty [] = true
@@ -31,9 +41,19 @@ mayWait f =
     not (anyFaulty f)
     && (sameText (map byteIn f) (ascii "S") || sameText (map byteIn f) (ascii "T") || sameText (map byteIn f) (ascii "Z"))
 
--- the answer that ends a wait at the W-th unstable sample
-abbrev pub isTimeout : List ℕ → Bool
-isTimeout l = sameText l (ascii "S I\r\n") || sameText l (ascii "T I\r\n") || sameText l (ascii "Z I\r\n")
+-- the answer that ends a command's wait at the W-th unstable sample: its identification, which is its name, and I
+abbrev pub timesOut : List ℕ → List ℕ → Bool
+timesOut name l = sameText l (name ++ ascii " I\r\n")
+
+-- the answer that ends it at a stable sample: granted, with A for Z and S for S and T, or + or -
+abbrev pub grantedStatus : List ℕ → List ℕ
+grantedStatus name = cond (sameText name (ascii "Z")) (ascii "A") (ascii "S")
+
+abbrev pub settles : List ℕ → List ℕ → Bool
+settles name l =
+    begins (name ++ ascii " " ++ grantedStatus name) l
+    || sameText l (name ++ ascii " +\r\n")
+    || sameText l (name ++ ascii " -\r\n")
 
 -- ---- after a call that was not refused
 
@@ -42,7 +62,7 @@ abbrev pub afterLine : Waits → List Marked → List ℕ → Waits
 afterLine w f l =
     record {
       line = [];
-      waiting = cond (isResetLine f) false (cond (isEmpty l) true (w .waiting));
+      waiting = cond (isResetLine f) nothing (cond (isEmpty l) (command (map byteIn f)) (w .waiting));
       unstable = cond (isEmpty l) 0 (w .unstable);
     }
 
@@ -53,25 +73,29 @@ afterInput w (byteIs m) l =
       | false ↦ record { line = m ∷ w .line; waiting = w .waiting; unstable = w .unstable }
     ]
 afterInput w (sampleIs z stable) l =
-    record { line = w .line; waiting = w .waiting && isEmpty l; unstable = cond (w .waiting && not stable) (suc (w .unstable)) (w .unstable) }
+    record {
+      line = w .line;
+      waiting = cond (isEmpty l) (w .waiting) nothing;
+      unstable = cond (isAwaiting (w .waiting) && not stable) (suc (w .unstable)) (w .unstable);
+    }
 
 -- a byte that ends no line has no answer; an ended line has its answer, or is S, T or Z and waits from now on
 abbrev pub byteHolds : Waits → Marked → List ℕ → Bool
 byteHolds w m l =
     elim (endsUnbounded (w .line) m) [
-      | true ↦ not (isEmpty l) || (not (w .waiting) && mayWait (finishedLine (w .line)))
+      | true ↦ not (isEmpty l) || (not (isAwaiting (w .waiting)) && mayWait (finishedLine (w .line)))
       | false ↦ isEmpty l
     ]
 
 -- a stable sample ends the wait; of the unstable ones the W-th does, with I, and no other
-abbrev pub sampleHolds : Profile → Waits → Bool → List ℕ → Bool
-sampleHolds p w stable l =
-    not (w .waiting)
-    || cond stable (not (isEmpty l)) (cond (eqb (suc (w .unstable)) (p .timeout)) (isTimeout l) (isEmpty l))
+abbrev pub awaitedHolds : Profile → ℕ → Awaited → Bool → List ℕ → Bool
+awaitedHolds p unstable nothing stable l = true
+awaitedHolds p unstable (command name) stable l =
+    cond stable (settles name l) (cond (eqb (suc unstable) (p .timeout)) (timesOut name l) (isEmpty l))
 
 abbrev pub inputHolds : Profile → Waits → Input → List ℕ → Bool
 inputHolds p w (byteIs m) l = byteHolds w m l
-inputHolds p w (sampleIs z stable) l = sampleHolds p w stable l
+inputHolds p w (sampleIs z stable) l = awaitedHolds p (w .unstable) (w .waiting) stable l
 
 -- refused by 3 or not at all
 abbrev pub refusedForRoom : ℕ → Bool

@@ -2,18 +2,18 @@
 -- place in a head.
 -- Assumes nothing.
 use Prim.Native.Nat.{ℕ, zero, suc}
-use mathlib.Core.Path.{_≡_, refl}
+use mathlib.Core.Path.{_≡_, refl, subst}
 use mathlib.Core.Bool.{Bool, true, false, cond, not, _&&_, false≢true}
 use mathlib.Core.List.{List, _++_}
 use native.Mathlib.Omega.{arith}
-use borrow.Author.Tests.{leb-true}
+use borrow.Author.Tests.{leb-true, not-true}
 use lib.Dec.{leb}
 use Rattle.answer.specs.declared.answer.Answer.the-variants.{Nothing, Plain, Weight, Refused, Text, CommandList, Versions}
 use Rattle.answer.specs.declared.answer.Error.{Error}
 use Rattle.answer.specs.declared.answer.Error.the-variants.{Syntax, Transmission, Logical}
 use Rattle.answer.specs.declared.answer.Number.{Number}
 use Rattle.answer.specs.declared.answer.Status.{Status}
-use Rattle.answer.specs.declared.answer.Status.the-variants.{A, B, S, D, I, L, Over, Under}
+use Rattle.answer.specs.declared.answer.Status.the-variants.{A, S, D, I, L, Over, Under}
 use Rattle.answer.specs.Commands.{names}
 use Rattle.answer.proofs.Names.{at-name}
 use Rattle.answer.specs.Lines.{lineEnd, statusText, headText, listedLine, listedFrom, lineOf}
@@ -21,47 +21,52 @@ use Rattle.model.specs.declared.profile.Profile.{Profile}
 use Rattle.weighing.specs.Weighings.{headOf, placeS, placeZ, placeZI, placeD, placeDW, placeT, placeTA, placeTAC, placeTI}
 use Rattle.device.specs.Calls.{answerBytes}
 use Rattle.text.specs.Ascii.{ascii}
-use Rattle.history.specs.Tally.{grantsZero, grantsTare, grantsClear, tellsTare, tellsNet}
+use Rattle.history.specs.Tally.{grantsZero, grantsTare, grantsClear, tellsTare, tellsNet, tellsLimit}
 
--- what the five tests of the tally find in a line
-pub record Tests (zero tare clear told net : Bool) (l : List ℕ) : Type 0 where
+-- what the six tests of the tally find in a line
+pub record Tests (zero tare clear told net limit : Bool) (l : List ℕ) : Type 0 where
   pub zero-is : grantsZero l ≡ zero
   pub tare-is : grantsTare l ≡ tare
   pub clear-is : grantsClear l ≡ clear
   pub told-is : tellsTare l ≡ told
   pub net-is : tellsNet l ≡ net
+  pub limit-is : tellsLimit l ≡ limit
 
--- a line that grants and weighs nothing
+-- a line that grants and weighs nothing; it may tell that a load is out of its limits
+abbrev pub Denied : List ℕ → Type 0
+Denied l = Tests false false false false false (tellsLimit l) l
+
+-- a line that does not tell that either
 abbrev pub Silent : List ℕ → Type 0
-Silent l = Tests false false false false false l
+Silent l = Tests false false false false false false l
 
 -- Z A, ZI S, ZI D
 abbrev pub Zeroes : List ℕ → Type 0
-Zeroes l = Tests true false false false false l
+Zeroes l = Tests true false false false false false l
 
 -- T S, TI S, TI D
 abbrev pub Tares : List ℕ → Type 0
-Tares l = Tests false true false false false l
+Tares l = Tests false true false false false false l
 
 -- TAC A
 abbrev pub Clears : List ℕ → Type 0
-Clears l = Tests false false true false false l
+Clears l = Tests false false true false false false l
 
 -- TA A
 abbrev pub Tells : List ℕ → Type 0
-Tells l = Tests false false false true false l
+Tells l = Tests false false false true false false l
 
 -- S S, S D
 abbrev pub Weighs : List ℕ → Type 0
-Weighs l = Tests false false false false true l
+Weighs l = Tests false false false false true false l
 
 -- the tests of a line whose head is written out compute
-computed : (l : List ℕ) → Tests (grantsZero l) (grantsTare l) (grantsClear l) (tellsTare l) (tellsNet l) l
-computed l = record { zero-is = refl; tare-is = refl; clear-is = refl; told-is = refl; net-is = refl }
+computed : (l : List ℕ) → Tests (grantsZero l) (grantsTare l) (grantsClear l) (tellsTare l) (tellsNet l) (tellsLimit l) l
+computed l = record { zero-is = refl; tare-is = refl; clear-is = refl; told-is = refl; net-is = refl; limit-is = refl }
 
 -- ---- one test of every name at once
 
--- the five tests in one
+-- five of the tests in one
 abbrev grantsNothing : List ℕ → Bool
 grantsNothing l = not (grantsZero l) && not (grantsTare l) && not (grantsClear l) && not (tellsTare l) && not (tellsNet l)
 
@@ -75,27 +80,26 @@ silent-by false false false true n e = absurd (false≢true e)
 silent-by false false false false true e = absurd (false≢true e)
 
 -- so the one test is enough
-silent-is : (l : List ℕ) → grantsNothing l ≡ true → Silent l
-silent-is l e =
+denied-is : (l : List ℕ) → grantsNothing l ≡ true → Denied l
+denied-is l e =
     let h = silent-by (grantsZero l) (grantsTare l) (grantsClear l) (tellsTare l) (tellsNet l) e in
-    record { zero-is = h .0; tare-is = h .1; clear-is = h .2; told-is = h .3; net-is = h .4 }
+    record { zero-is = h .0; tare-is = h .1; clear-is = h .2; told-is = h .3; net-is = h .4; limit-is = refl }
+
+-- with the sixth
+silent-is : (l : List ℕ) → grantsNothing l ≡ true → not (tellsLimit l) ≡ true → Silent l
+silent-is l e f = let limit : tellsLimit l ≡ false = not-true (tellsLimit l) f in subst (λ b. Tests false false false false false b l) limit (denied-is l e)
 
 -- ---- the answers that grant and weigh nothing
 
--- I, L, + and -
-abbrev pub isDenial : Status → Bool
-isDenial A = false
-isDenial B = false
-isDenial S = false
-isDenial D = false
-isDenial I = true
-isDenial L = true
-isDenial Over = true
-isDenial Under = true
+-- a name with a status
+abbrev answerOf : Status → List ℕ → List ℕ
+answerOf s n = n ++ ascii " " ++ statusText s ++ lineEnd
 
--- a name with one of these
 abbrev isDenied : Status → List ℕ → Bool
-isDenied s n = grantsNothing (n ++ ascii " " ++ statusText s ++ lineEnd)
+isDenied s n = grantsNothing (answerOf s n)
+
+abbrev isNoLimit : Status → List ℕ → Bool
+isNoLimit s n = not (tellsLimit (answerOf s n))
 
 module _ (p : Profile) where
   -- no answer
@@ -135,17 +139,24 @@ module _ (p : Profile) where
   unfolding answerBytes lineOf headText
   cleared-clears = computed _
 
-  -- any identification with I, L, + or -
-  pub denied-silent : (c : ℕ) (s : Status) → isDenial s ≡ true → Silent (answerBytes p (Plain (headOf c s)))
+  -- any identification with I
+  pub unready-silent : (c : ℕ) → Silent (answerBytes p (Plain (headOf c I)))
   unfolding answerBytes lineOf headText
-  denied-silent c A e = absurd (false≢true e)
-  denied-silent c B e = absurd (false≢true e)
-  denied-silent c S e = absurd (false≢true e)
-  denied-silent c D e = absurd (false≢true e)
-  denied-silent c I e = silent-is _ (at-name (isDenied I) names c refl)
-  denied-silent c L e = silent-is _ (at-name (isDenied L) names c refl)
-  denied-silent c Over e = silent-is _ (at-name (isDenied Over) names c refl)
-  denied-silent c Under e = silent-is _ (at-name (isDenied Under) names c refl)
+  unready-silent c = silent-is _ (at-name (isDenied I) names c refl) (at-name (isNoLimit I) names c refl)
+
+  -- with L
+  pub wrong-silent : (c : ℕ) → Silent (answerBytes p (Plain (headOf c L)))
+  unfolding answerBytes lineOf headText
+  wrong-silent c = silent-is _ (at-name (isDenied L) names c refl) (at-name (isNoLimit L) names c refl)
+
+  -- with + and -
+  pub over-denied : (c : ℕ) → Denied (answerBytes p (Plain (headOf c Over)))
+  unfolding answerBytes lineOf headText
+  over-denied c = denied-is _ (at-name (isDenied Over) names c refl)
+
+  pub under-denied : (c : ℕ) → Denied (answerBytes p (Plain (headOf c Under)))
+  unfolding answerBytes lineOf headText
+  under-denied c = denied-is _ (at-name (isDenied Under) names c refl)
 
   -- I2 to I5, and I0 and I1 with them
   pub text-silent : (c : ℕ) → leb c 5 ≡ true → Silent (answerBytes p (Text c))

@@ -23,10 +23,10 @@ use Rattle.weight.specs.Printing.{printable}
 use Rattle.model.proofs.ProfileFacts.{allowed-profile}
 use Rattle.weight.proofs.Nearness.{near-refl}
 use Rattle.history.specs.Tally.{Tally, Input, taken, ends, endedText, typedText, typedTare, afterReset, tallied, holds}
-use Rattle.history.proofs.AnswerKinds.{Silent, Zeroes, Tares, Weighs, denied-silent, weighed-weighs, cleared-clears, told-tells}
+use Rattle.history.proofs.AnswerKinds.{Denied, Silent, Zeroes, Tares, Weighs, over-denied, under-denied, weighed-weighs, cleared-clears, told-tells}
 use Rattle.history.proofs.DueWeights.{net-printable, gross-printable, tare-printable}
 use Rattle.history.proofs.Following.{Follows, is-loaded, latest-is, gross-is, net-near, tare-near}
-use Rattle.history.proofs.Tallying.{after-silent, after-zeroes, after-tares, after-clears, after-typed, after-told, after-weighs, silent-holds, zeroes-holds, clears-holds, weighs-holds, tares-holds, told-holds, typed-holds}
+use Rattle.history.proofs.Tallying.{after-denied, after-zeroes, after-tares, after-clears, after-typed, after-told, after-weighs, silent-holds, denied-holds, zeroes-holds, clears-holds, weighs-holds, tares-holds, told-holds, typed-holds}
 use Rattle.history.proofs.WaitsAnswer.{in-limits}
 use Rattle.history.proofs.WeightLines.{Shows, weighed-shows, told-shows}
 
@@ -37,7 +37,7 @@ pub record Answered (p : Profile) (t : Tally) (i : Input) (w : Weighing) (l : Li
 
 -- an answer that grants and weighs nothing
 pub answered-silent : (p : Profile) (t : Tally) (i : Input) (w : Weighing) (l : List ℕ) → Follows w (afterReset t i (taken t i)) → Silent l → Answered p t i w l
-answered-silent p t i w l f k = record { accepted = silent-holds p t i l k; follows = rw (after-silent p t i l k) f }
+answered-silent p t i w l f k = record { accepted = silent-holds p t i l k; follows = rw (after-denied p t i l k) f }
 
 -- femtograms of no tare
 pub zero-exact : exactFemtograms (pos 0) ≡ pos 0
@@ -49,6 +49,11 @@ module _ (p : Profile) (t : Tally) (i : Input) (w : Weighing) (not-reset : after
   -- an answer that grants and weighs nothing
   pub answered-quietly : (l : List ℕ) → Silent l → Answered p t i w l
   answered-quietly l k = answered-silent p t i w l (rw not-reset f) k
+
+  -- + or -, which a load is needed for
+  answered-denied : (l : List ℕ) → Denied l → w .sampled ≡ true → Answered p t i w l
+  answered-denied l k sampled =
+      record { accepted = denied-holds p t i l k (is-loaded w (taken t i) f sampled); follows = rw (after-denied p t i l k, not-reset) f }
 
   -- ---- Z, ZI
 
@@ -67,8 +72,8 @@ module _ (p : Profile) (t : Tally) (i : Input) (w : Weighing) (not-reset : after
       → Zeroes (answerBytes p (Plain (headOf c granted)))
       → w .sampled ≡ true
       → Answered p t i (chosenWeighing (over || under) w (withZero w)) (answerBytes p (inLimits c over under (Plain (headOf c granted))))
-  zeroed-by true under c granted k sampled = answered-quietly _ (denied-silent p c Over refl)
-  zeroed-by false true c granted k sampled = answered-quietly _ (denied-silent p c Under refl)
+  zeroed-by true under c granted k sampled = answered-denied _ (over-denied p c) sampled
+  zeroed-by false true c granted k sampled = answered-denied _ (under-denied p c) sampled
   zeroed-by false false c granted k sampled = zero-granted _ k sampled
 
   pub answered-zeroed
@@ -120,8 +125,8 @@ module _ (p : Profile) (t : Tally) (i : Input) (w : Weighing) (not-reset : after
     answered-weighed range sampled =
         in-limits (λ a. Answered p t i w (answerBytes p a)) placeS (ltZ (pos (p .capacity)) (grossOf w)) (ltZ (grossOf w) (negℤ (pos (p .underload))))
         (Weight (headOf placeS (stability w)) (numberOf p (netOf w)))
-        (answered-quietly _ (denied-silent p placeS Over refl))
-        (answered-quietly _ (denied-silent p placeS Under refl))
+        (answered-denied _ (over-denied p placeS) sampled)
+        (answered-denied _ (under-denied p placeS) sampled)
         (λ o u.
         net-told _ (weighed-weighs p (w .stable) (numberOf p (netOf w)))
         (weighed-shows p (netOf w) (net-printable p allowed (grossOf w) (w .tare .0) o u range) (w .stable))
@@ -160,8 +165,8 @@ module _ (p : Profile) (t : Tally) (i : Input) (w : Weighing) (not-reset : after
         → w .sampled ≡ true
         → Answered p t i (chosenWeighing (over || under) w (withTare w (natAbs (grossOf w))))
         (answerBytes p (inLimits c over under (Weight (headOf c (stability w)) (numberOf p (grossOf w)))))
-    tared-by true under c o u k s sampled = answered-quietly _ (denied-silent p c Over refl)
-    tared-by false true c o u k s sampled = answered-quietly _ (denied-silent p c Under refl)
+    tared-by true under c o u k s sampled = answered-denied _ (over-denied p c) sampled
+    tared-by false true c o u k s sampled = answered-denied _ (under-denied p c) sampled
     tared-by false false c o u k s sampled =
         tare-granted _ k sampled (between (grossOf w) (p .capacity) o u .0) (s (gross-printable p allowed (grossOf w) o u))
 

@@ -99,15 +99,15 @@ natural-printed r (pos m) e = refl
 natural-printed r (negsuc m) e = absurd (false≢true e)
 
 -- the tally takes for weights: S S, S D
-net-weight : {zero tare clear told : Bool} (l : List ℕ) → Tests zero tare clear told true l → isWeightAnswer l ≡ true
+net-weight : {zero tare clear told limit : Bool} (l : List ℕ) → Tests zero tare clear told true limit l → isWeightAnswer l ≡ true
 net-weight l k = rw (k .net-is)
 
 -- T S, TI S, TI D
-tare-weight : {zero clear told net : Bool} (l : List ℕ) → Tests zero true clear told net l → isWeightAnswer l ≡ true
+tare-weight : {zero clear told net limit : Bool} (l : List ℕ) → Tests zero true clear told net limit l → isWeightAnswer l ≡ true
 tare-weight l k = rw (k .tare-is, or-true (tellsNet l))
 
 -- TA A
-told-weight : {zero tare clear net : Bool} (l : List ℕ) → Tests zero tare clear true net l → isWeightAnswer l ≡ true
+told-weight : {zero tare clear net limit : Bool} (l : List ℕ) → Tests zero tare clear true net limit l → isWeightAnswer l ≡ true
 told-weight l k = rw (k .told-is, or-true (tellsNet l || grantsTare l))
 
 module _ (p : Profile) (allowed : profileAllowed p ≡ true) where

@@ -33,7 +33,7 @@ use Rattle.line.specs.Unbounded.{Marked, endsUnbounded, finishedLine}
 use Rattle.text.specs.Ascii.{ascii, sameText}
 use Rattle.weight.proofs.Nearness.{near-refl}
 use Rattle.history.specs.Tally.{Tally, Input, byteIs, sampleIs, taken, ends, endedText, isResetLine, afterReset, withTareOf}
-use Rattle.history.proofs.AnswerKinds.{nothing-silent, refused-silent, list-silent, versions-silent, shown-silent, weight-shown-silent, denied-silent, text-silent, zeroed-zeroes, zeroed-now-zeroes, tared-tares, tared-now-tares}
+use Rattle.history.proofs.AnswerKinds.{nothing-silent, refused-silent, list-silent, versions-silent, shown-silent, weight-shown-silent, unready-silent, wrong-silent, text-silent, zeroed-zeroes, zeroed-now-zeroes, tared-tares, tared-now-tares}
 use Rattle.history.proofs.Answering.{Answered, answered-silent, answered-quietly, answered-zeroed, answered-cleared, answered-weighed, answered-tared, answered-told, answered-typed, zero-exact}
 use Rattle.history.proofs.Following.{Follows}
 use Rattle.history.proofs.Verdicts.{Says}
@@ -231,9 +231,9 @@ module _
         → Reacted p t (byteIs m) (performed p s l v)
     performed-reacted l (Refused e) says = answered-quietly p t (byteIs m) (s .weighing) (no-reset says) byte-followed _ (refused-silent p e)
     performed-reacted l Reset says = answered-silent p t (byteIs m) _ _ (reset-followed says) (text-silent p 4 refl)
-    performed-reacted l (Busy c) says = answered-quietly p t (byteIs m) (s .weighing) (no-reset says) byte-followed _ (denied-silent p (identificationOf c) I refl)
-    performed-reacted l (Wrong c) says = answered-quietly p t (byteIs m) (s .weighing) (no-reset says) byte-followed _ (denied-silent p c L refl)
-    performed-reacted l (NoSample c) says = answered-quietly p t (byteIs m) (s .weighing) (no-reset says) byte-followed _ (denied-silent p (identificationOf c) I refl)
+    performed-reacted l (Busy c) says = answered-quietly p t (byteIs m) (s .weighing) (no-reset says) byte-followed _ (unready-silent p (identificationOf c))
+    performed-reacted l (Wrong c) says = answered-quietly p t (byteIs m) (s .weighing) (no-reset says) byte-followed _ (wrong-silent p c)
+    performed-reacted l (NoSample c) says = answered-quietly p t (byteIs m) (s .weighing) (no-reset says) byte-followed _ (unready-silent p (identificationOf c))
     performed-reacted l (Run c) says =
         run-reacted p allowed t (byteIs m) (no-reset (says .other)) s byte-followed range c (says .sample) end (says .text) (says .known)
     performed-reacted l (Preset n) says =
@@ -284,7 +284,7 @@ module _
         (reaction (withWaiting (sampled stable) (record { pending = s .waiting .pending; unstable = s .waiting .unstable + 1 })) answers.Nothing))
     waited-by stable true =
         answered-quietly p t (sampleIs (z .0) stable) (withSample (s .weighing) z stable) (sample-not-reset stable) (sample-followed stable) _
-        (denied-silent p (placeOfPending (s .waiting .pending)) I refl)
+        (unready-silent p (placeOfPending (s .waiting .pending)))
     waited-by stable false =
         answered-quietly p t (sampleIs (z .0) stable) (withSample (s .weighing) z stable) (sample-not-reset stable) (sample-followed stable) _ (nothing-silent p)
 

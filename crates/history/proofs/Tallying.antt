@@ -2,7 +2,7 @@
 -- Assumes nothing.
 use Prim.Native.Nat.{ℕ, _*_, _≤_}
 use mathlib.Core.Path.{_≡_, refl, _∙_}
-use mathlib.Core.Bool.{Bool, true, false, _&&_}
+use mathlib.Core.Bool.{Bool, true, false, not, _&&_, or-true}
 use mathlib.Core.List.{List}
 use borrow.Author.Tests.{le-leb}
 use lib.IntN.{ℤ, pos, natAbs, _-ℤ_}
@@ -10,8 +10,8 @@ use Rattle.model.specs.declared.profile.Profile.{Profile}
 use Rattle.text.specs.Ascii.{ascii, sameText}
 use Rattle.text.specs.Reading.{readField, isDecimal}
 use Rattle.weight.specs.Rounding.{placeFemtograms, printedFemtograms, exactFemtograms, placesOf, Near}
-use Rattle.history.specs.Tally.{Input, Tally, chosenTally, withTareOf, withZeroOf, taken, ends, ended, endedText, isResetLine, afterReset, latestOf, isLoaded, typedText, typedTare, exactWeight, allowance, numberFemtograms, isWhole, tenOf, compares, grantsZero, grantsTare, grantsClear, grantsTyped, granted, loadHolds, typedHolds, weightHolds, tallied, holds}
-use Rattle.history.proofs.AnswerKinds.{Silent, Zeroes, Tares, Clears, Tells, Weighs}
+use Rattle.history.specs.Tally.{Input, Tally, chosenTally, withTareOf, withZeroOf, taken, ends, ended, endedText, isResetLine, afterReset, latestOf, isLoaded, typedText, typedTare, exactWeight, allowance, numberFemtograms, isWhole, tenOf, compares, grantsZero, grantsTare, grantsClear, grantsTyped, tellsLimit, granted, loadHolds, typedHolds, weightHolds, tallied, holds}
+use Rattle.history.proofs.AnswerKinds.{Tests, Denied, Silent, Zeroes, Tares, Clears, Tells, Weighs}
 use Rattle.history.proofs.WeightLines.{Shows}
 
 -- ---- the line is what the input makes of it, whatever is answered
@@ -43,9 +43,9 @@ module _ (p : Profile) (t : Tally) (i : Input) (l : List ℕ) where
 
   -- ---- the tally after the answer
 
-  pub after-silent : Silent l → tallied p t i l ≡ afterReset t i (taken t i)
+  pub after-denied : {limit : Bool} → Tests false false false false false limit l → tallied p t i l ≡ afterReset t i (taken t i)
   unfolding tallied granted
-  after-silent k = rw (k .zero-is, k .tare-is, k .clear-is, k .told-is)
+  after-denied k = rw (k .zero-is, k .tare-is, k .clear-is, k .told-is)
 
   pub after-zeroes : Zeroes l → tallied p t i l ≡ withZeroOf (afterReset t i (taken t i)) (latestOf (afterReset t i (taken t i)))
   unfolding tallied granted
@@ -91,7 +91,11 @@ module _ (p : Profile) (t : Tally) (l : List ℕ) (w : ℤ) (s : Shows p w l) (n
 module _ (p : Profile) (t : Tally) (i : Input) (l : List ℕ) where
   pub silent-holds : Silent l → holds p t i l ≡ true
   unfolding holds loadHolds typedHolds weightHolds
-  silent-holds k = rw (k .zero-is, k .tare-is, k .told-is, k .net-is)
+  silent-holds k = rw (k .zero-is, k .tare-is, k .told-is, k .net-is, k .limit-is)
+
+  pub denied-holds : Denied l → isLoaded (taken t i) ≡ true → holds p t i l ≡ true
+  unfolding holds loadHolds typedHolds weightHolds
+  denied-holds k loaded = rw (k .zero-is, k .tare-is, k .told-is, k .net-is, loaded, or-true (not (tellsLimit l)))
 
   pub zeroes-holds : Zeroes l → isLoaded (taken t i) ≡ true → holds p t i l ≡ true
   unfolding holds loadHolds typedHolds weightHolds
@@ -99,7 +103,7 @@ module _ (p : Profile) (t : Tally) (i : Input) (l : List ℕ) where
 
   pub clears-holds : Clears l → holds p t i l ≡ true
   unfolding holds loadHolds typedHolds weightHolds
-  clears-holds k = rw (k .zero-is, k .tare-is, k .told-is, k .net-is)
+  clears-holds k = rw (k .zero-is, k .tare-is, k .told-is, k .net-is, k .limit-is)
 
   module _ (w : ℤ) (s : Shows p w l) (near : Near (allowance p (tallied p t i l)) (printedFemtograms (p .resolution) (placesOf (p .resolution) w)) (exactWeight (tallied p t i l) l)) where
     pub weighs-holds : Weighs l → isLoaded (taken t i) ≡ true → holds p t i l ≡ true
@@ -112,9 +116,9 @@ module _ (p : Profile) (t : Tally) (i : Input) (l : List ℕ) where
 
     pub told-holds : Tells l → ends t i ≡ true → sameText (endedText t i) (ascii "TA") ≡ true → holds p t i l ≡ true
     unfolding holds loadHolds typedHolds weightHolds
-    told-holds k end alone = rw (k .zero-is, k .tare-is, k .told-is, k .net-is, end, alone) (weight-compares p (tallied p t i l) l w s near)
+    told-holds k end alone = rw (k .zero-is, k .tare-is, k .told-is, k .net-is, k .limit-is, end, alone) (weight-compares p (tallied p t i l) l w s near)
 
     pub typed-holds : Tells l → ends t i ≡ true → sameText (endedText t i) (ascii "TA") ≡ false → isDecimal (typedText (endedText t i)) ≡ true → holds p t i l ≡ true
     unfolding holds loadHolds typedHolds weightHolds
     typed-holds k end other decimal =
-        rw (k .zero-is, k .tare-is, k .told-is, k .net-is, end, other, decimal) (weight-compares p (tallied p t i l) l w s near)
+        rw (k .zero-is, k .tare-is, k .told-is, k .net-is, k .limit-is, end, other, decimal) (weight-compares p (tallied p t i l) l w s near)

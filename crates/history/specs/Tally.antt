@@ -113,6 +113,20 @@ tellsTare l = begins (ascii "TA A") l
 abbrev pub tellsNet : List ℕ → Bool
 tellsNet l = begins (ascii "S S") l || begins (ascii "S D") l
 
+-- + and - of the commands that judge a load
+abbrev pub tellsLimit : List ℕ → Bool
+tellsLimit l =
+    begins (ascii "S +") l
+    || begins (ascii "S -") l
+    || begins (ascii "Z +") l
+    || begins (ascii "Z -") l
+    || begins (ascii "ZI +") l
+    || begins (ascii "ZI -") l
+    || begins (ascii "T +") l
+    || begins (ascii "T -") l
+    || begins (ascii "TI +") l
+    || begins (ascii "TI -") l
+
 -- the latest load; 0 where there is none, which `loaded` excludes
 abbrev pub latestOf : Tally → ℤ
 latestOf t = elim (t .latest) [ none ↦ pos 0 | load z ↦ z ]
@@ -181,7 +195,7 @@ weightHolds p t l = not (isWeightAnswer l) || (isWhole p l && compares p t l (re
 
 -- No answer that needs the latest load comes before one
 unfoldable pub loadHolds : Tally → List ℕ → Bool
-loadHolds t l = not (grantsZero l || grantsTare l || tellsNet l) || isLoaded t
+loadHolds t l = not (grantsZero l || grantsTare l || tellsNet l || tellsLimit l) || isLoaded t
 
 -- TA A comes at the end of a line, and one that sets a tare has a number in it
 unfoldable pub typedHolds : Tally → Input → List ℕ → Bool

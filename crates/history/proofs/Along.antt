@@ -58,7 +58,7 @@ pub over-calls
     → ((p : Profile) → profileAllowed p ≡ true → Step p X (Inv p) (accepted p))
     → (x : X)
     → ((p : Profile) → Inv p startState x)
-    → OverCalls (λ p es. accepted p x es ≡ true)
+    → OverCalls (λ p sent es. accepted p x es ≡ true)
 over-calls step x start p earlier room r buffer call none es s calls =
-    let on : Started p (r .state) = started p earlier room call none in
+    let on : Started p r buffer = started p earlier room call none in
     along (step p (on .profile)) x (rw (on .state) (start p)) calls

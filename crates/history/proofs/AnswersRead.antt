@@ -83,6 +83,10 @@ module _ (p : Profile) (allowed : profileAllowed p ≡ true) where
   identity-read (suc (suc (suc (suc (suc zero))))) e f h = text-read p 5 (form20 5 (p .identity) refl (facts .identity))
   identity-read (suc (suc (suc (suc (suc (suc c)))))) e f h = absurd (omega (arith, leb-true (suc (suc (suc (suc (suc (suc c)))))) 5 h))
 
+  -- I4, which power-on and @ send
+  pub serial-read : ReadByHost p (answers.Text 4)
+  serial-read = identity-read 4 refl refl refl
+
   -- I0 to I5
   informed-by : (c : ℕ) (first second : Bool) → eqb c 0 ≡ first → eqb c 1 ≡ second → leb c 5 ≡ true
       → ReadByHost p (cond first CommandList (cond second Versions (answers.Text c)))
@@ -287,7 +291,7 @@ module _ (p : Profile) (allowed : profileAllowed p ≡ true) (s : State) (range 
   -- what each verdict answers
   performed-read : (l : Line) (v : Verdict) → Named p v → ReadIn p (performed p s l v)
   performed-read l (Refused e) named = refused-read p e
-  performed-read l Reset named = identity-read p allowed 4 refl refl refl
+  performed-read l Reset named = serial-read p allowed
   performed-read l (Busy c) named = plain-read p (identificationOf c) I named
   performed-read l (Wrong c) named = plain-read p c L named
   performed-read l (NoSample c) named = plain-read p (identificationOf c) I named

@@ -6,6 +6,7 @@ use mathlib.Core.Path.{_≡_, refl}
 use mathlib.Core.Bool.{true, _&&_}
 use mathlib.Core.List.{List}
 use lib.ListN.{take}
+use Rattle.answer.specs.declared.answer.Answer.the-variants.{Text}
 use Rattle.device.specs.declared.call.Called.{Called}
 use Rattle.model.specs.declared.profile.Profile.{Profile}
 use Rattle.waiting.specs.declared.react.Reaction.{Reaction}
@@ -14,14 +15,16 @@ use Rattle.device.specs.Calls.{numberOfRefusal, answerBytes}
 use Rattle.model.specs.Profiles.{profileAllowed}
 use Rattle.commands.specs.Reactions.{byteReaction}
 use Rattle.waiting.specs.Waits.{sampleReaction}
-use Rattle.history.specs.EndToEnd.{hostAccepts, EndToEnd}
+use Rattle.history.specs.Claim.{OverCalls}
+use Rattle.history.specs.EndToEnd.{piecesOf, piecesHold, hostAccepts, EndToEnd}
 use Rattle.history.specs.Tally.{Input, Tally, startTally, byteIs, sampleIs, taken, tallied, loadHolds, typedHolds, weightHolds, holds, afterEvent, eventHolds}
 use Rattle.history.proofs.Along.{Followed, Step, over-calls}
-use Rattle.history.proofs.AnswersRead.{byte-read, sample-read}
+use Rattle.history.proofs.AnswerKinds.{text-silent}
+use Rattle.history.proofs.AnswersRead.{serial-read, byte-read, sample-read}
 use Rattle.history.proofs.DueWeights.{tare-range}
 use Rattle.history.proofs.HostReads.{ReadByHost}
 use Rattle.history.proofs.Stepping.{FollowsState, start-followed, Stepped, byte-stepped, sample-stepped}
-use Rattle.history.proofs.WaitsDelivered.{Delivered, given, withheld, byte-delivered, sample-delivered}
+use Rattle.history.proofs.WaitsDelivered.{Started, started, Delivered, given, withheld, byte-delivered, sample-delivered}
 use Rattle.line.proofs.Kept.{markedAs}
 use Rattle.weight.proofs.Allowed.{both-right}
 
@@ -72,6 +75,18 @@ step p profile =
 
 -- ---- the whole list
 
+-- power-on's line: I4 and its text
+on-read : (p : Profile) → profileAllowed p ≡ true → piecesHold p startTally (piecesOf (answerBytes p (Text 4))) ≡ true
+unfolding weightHolds
+on-read p allowed =
+    let k = text-silent p 4 refl in
+    serial-read p allowed startTally (rw (k .net-is, k .tare-is, k .told-is))
+
+calls-read : OverCalls (λ p sent es. hostAccepts p startTally es ≡ true)
+calls-read = over-calls {X = Tally} {Inv = FollowsState} {accepted = hostAccepts} step startTally start-followed
+
 -- end to end
 pub end-to-end : EndToEnd
-end-to-end = over-calls {X = Tally} {Inv = FollowsState} {accepted = hostAccepts} step startTally start-followed
+end-to-end p earlier room r buffer call none es s calls =
+    let on : Started p r buffer = started p earlier room call none in
+    rw (on .sent, on-read p (on .profile)) (calls-read p earlier room r buffer call none es s calls)

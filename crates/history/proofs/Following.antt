@@ -1,15 +1,17 @@
 -- The tally follows a weighing: the same latest load and zero, and the same tare up to half a microgram if it is typed. One law
 -- for each kind of answer, used both where a line ends and where a sample ends a wait.
 -- Assumes nothing.
-use mathlib.Core.Path.{_≡_, ap₂}
-use mathlib.Core.Bool.{true, cond}
-use lib.IntN.{pos, _-ℤ_}
+use Prim.Native.Nat.{_+_, _≤_}
+use native.Mathlib.Omega.{arith}
+use mathlib.Core.Path.{_≡_, refl, ap₂}
+use mathlib.Core.Bool.{Bool, true, false, cond}
+use lib.IntN.{ℤ, pos, _-ℤ_}
 use Rattle.model.specs.declared.profile.Profile.{Profile}
 use Rattle.model.specs.declared.weighing.Weighing.{Weighing}
 use Rattle.weighing.specs.Weighings.{grossOf, netOf}
 use Rattle.weight.specs.Rounding.{allowedResolution, stepFemtograms, printedFemtograms, exactFemtograms, placesOf, Near}
 use Rattle.weight.proofs.HalfStep.{half-step, exact-difference}
-use Rattle.weight.proofs.Nearness.{near-triangle, near-shift}
+use Rattle.weight.proofs.Nearness.{near-weaken, near-triangle, near-shift}
 use Rattle.history.specs.Tally.{Tally, Latest, none, load, latestOf, isLoaded, allowance}
 
 -- the latest load, as the tally keeps it
@@ -31,26 +33,38 @@ module _ (w : Weighing) (t : Tally) (f : Follows w t) (sampled : w .sampled ≡ 
   pub gross-is : latestOf t -ℤ t .zero ≡ grossOf w
   gross-is = ap₂ _-ℤ_ latest-is (f .zero)
 
+-- half a step, and half a microgram if the tare is typed, are within what the tally allows
+allowed-off : (p : Profile) (t : Tally) (typed : Bool) → t .typed ≡ typed
+    → stepFemtograms (p .resolution) + cond (t .typed) 1_000_000_000 0 ≤ allowance p t
+allowed-off p t true e = rw e (omega arith)
+allowed-off p t false e = rw e (omega arith)
+
 -- the printed net is near the tally's, and the printed tare near its tare
 module _ (p : Profile) (allowed : allowedResolution (p .resolution) ≡ true) (w : Weighing) (t : Tally) (f : Follows w t) where
+  -- within a bound that the allowance covers
+  covered : (a b : ℤ) → Near (stepFemtograms (p .resolution) + cond (t .typed) 1_000_000_000 0) a b → Near (allowance p t) a b
+  covered a b = near-weaken (stepFemtograms (p .resolution) + cond (t .typed) 1_000_000_000 0) (allowance p t) a b (allowed-off p t (t .typed) refl)
+
   pub net-near
       : w .sampled ≡ true
       → Near (allowance p t) (printedFemtograms (p .resolution) (placesOf (p .resolution) (netOf w))) (exactFemtograms (latestOf t -ℤ t .zero) -ℤ t .tare)
   net-near sampled =
       rw (gross-is w t f sampled)
+      (covered _ _
       (near-triangle (stepFemtograms (p .resolution)) (cond (t .typed) 1_000_000_000 0)
       (printedFemtograms (p .resolution) (placesOf (p .resolution) (netOf w)))
       (exactFemtograms (netOf w))
       (exactFemtograms (grossOf w) -ℤ t .tare)
       (half-step (p .resolution) (netOf w) allowed)
       (rw (exact-difference (grossOf w) (pos (w .tare .0)))
-      (near-shift (cond (t .typed) 1_000_000_000 0) (exactFemtograms (grossOf w)) (exactFemtograms (pos (w .tare .0))) (t .tare) (f .tare))))
+      (near-shift (cond (t .typed) 1_000_000_000 0) (exactFemtograms (grossOf w)) (exactFemtograms (pos (w .tare .0))) (t .tare) (f .tare)))))
 
   pub tare-near : Near (allowance p t) (printedFemtograms (p .resolution) (placesOf (p .resolution) (pos (w .tare .0)))) (t .tare)
   tare-near =
-      near-triangle (stepFemtograms (p .resolution)) (cond (t .typed) 1_000_000_000 0)
+      covered _ _
+      (near-triangle (stepFemtograms (p .resolution)) (cond (t .typed) 1_000_000_000 0)
       (printedFemtograms (p .resolution) (placesOf (p .resolution) (pos (w .tare .0))))
       (exactFemtograms (pos (w .tare .0)))
       (t .tare)
       (half-step (p .resolution) (pos (w .tare .0)) allowed)
-      (f .tare)
+      (f .tare))

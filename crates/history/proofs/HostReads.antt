@@ -5,7 +5,7 @@ use native.Mathlib.Omega.{arith}
 use mathlib.Core.Path.{_≡_, refl}
 use mathlib.Core.Bool.{Bool, true, _&&_, _||_}
 use mathlib.Core.List.{List, [], _∷_}
-use borrow.Author.Tests.{lt-ltb}
+use borrow.Author.Tests.{lt-ltb, le-leb, leb-true}
 use lib.Dec.{leb, eqb}
 use lib.IntN.{ℤ, natAbs, _-ℤ_}
 use lib.Signed.{nonNeg}
@@ -18,7 +18,7 @@ use Rattle.forms.specs.Forms.{plainForm, weightForm, isS, canForm}
 use Rattle.model.specs.declared.profile.Profile.{Profile}
 use Rattle.device.specs.Calls.{answerText, answerBytes}
 use Rattle.weighing.specs.Weighings.{headOf, numberOf}
-use Rattle.history.specs.EndToEnd.{piecesAfter, piecesOf, valueHolds, piecesHold}
+use Rattle.history.specs.EndToEnd.{piecesAfter, piecesOf, valueAllowance, valueHolds, piecesHold}
 use Rattle.history.specs.Tally.{Tally, isWeightAnswer, numberFemtograms, exactWeight, allowance, weightHolds}
 use Rattle.history.proofs.Pieces.{listed-first, formed-piece}
 use Rattle.history.proofs.WeightLines.{Shows, places-printed, field-fits}
@@ -109,11 +109,18 @@ text-read p c form = formed-read p (Text c) form (λ t holds. refl)
 -- ---- weights
 
 module _ (p : Profile) (w : ℤ) (fits : printable (p .resolution) w ≡ true) where
+  -- how far off the number is
+  abbrev off : Tally → List ℕ → ℕ
+  off t l = 2 * natAbs (numberFemtograms p (p .resolution .decimals) (placesOf (p .resolution) w) -ℤ exactWeight t l)
+
   -- what the tally takes of its ten characters
-  value-near : (t : Tally) (l : List ℕ) → isWeightAnswer l ≡ true → Shows p w l → weightHolds p t l ≡ true
-      → leb (2 * natAbs (numberFemtograms p (p .resolution .decimals) (placesOf (p .resolution) w) -ℤ exactWeight t l)) (allowance p t) ≡ true
+  number-near : (t : Tally) (l : List ℕ) → isWeightAnswer l ≡ true → Shows p w l → weightHolds p t l ≡ true → leb (off t l) (allowance p t) ≡ true
   unfolding weightHolds
-  value-near t l weight shows holds = rw (weight, shows .whole, shows .number) at holds
+  number-near t l weight shows holds = rw (weight, shows .whole, shows .number) at holds
+
+  -- the reader's value may be as far off
+  value-near : (t : Tally) (l : List ℕ) → leb (off t l) (allowance p t) ≡ true → leb (off t l) (valueAllowance p t) ≡ true
+  value-near t l e = le-leb (off t l) (valueAllowance p t) (omega (arith, leb-true (off t l) (allowance p t) e))
 
   -- the reader's number is the one that the tally compared
   pub weight-read
@@ -126,4 +133,6 @@ module _ (p : Profile) (w : ℤ) (fits : printable (p .resolution) w ≡ true) w
   weight-read c s form sign weight shows =
       formed-read p (Weight (headOf c s) (numberOf p w))
       (rw (form, places-printed p w fits, field-fits p w fits, sign))
-      (λ t holds. rw (same-self (unitText (p .resolution .unit)), places-printed p w fits) (value-near t _ weight shows holds))
+      (λ t holds.
+      let l = answerBytes p (Weight (headOf c s) (numberOf p w)) in
+      rw (same-self (unitText (p .resolution .unit)), places-printed p w fits) (value-near t l (number-near t l weight shows holds)))

@@ -52,22 +52,29 @@ module _ (p : Profile) (s : State) (room : List ℕ) where
 -- ---- power-on
 
 -- what a power-on that is not refused tells
-pub record Started (p : Profile) (s : State) : Type 0 where
+pub record Started (p : Profile) (r : Called) (buffer : List ℕ) : Type 0 where
   pub profile : profileAllowed p ≡ true
-  pub state : s ≡ startState
+  pub state : r .state ≡ startState
+  pub sent : take (r .count) buffer ≡ answerBytes p (Text 4)
 
 module _ (p : Profile) (earlier : State) (room : List ℕ) where
   not-none : (n : ℕ) → numberOfRefusal refusals.None ≡ suc n → ⊥
   not-none n e = omega arith
 
   started-by : (allowed fits : Bool) → profileAllowed p ≡ allowed → fitsRoom (answerBytes p (Text 4)) room ≡ fits
-      → powerOnOutcome p earlier room .called .refusal ≡ refusals.None → Started p (powerOnOutcome p earlier room .called .state)
-  unfolding powerOnOutcome ofProfile delivered
-  started-by true true e f n = record { profile = e; state = rw (e, f) }
+      → powerOnOutcome p earlier room .called .refusal ≡ refusals.None
+      → Started p (powerOnOutcome p earlier room .called) (powerOnOutcome p earlier room .buffer)
+  unfolding powerOnOutcome ofProfile delivered laidIn
+  started-by true true e f n =
+      record {
+        profile = e;
+        state = rw (e, f);
+        sent = rw (e, f) (take-append-seam (answerBytes p (Text 4)) (drop (length (answerBytes p (Text 4))) room));
+      }
   started-by true false e f n = absurd (not-none 2 (sym (ap numberOfRefusal (rw (e, f) at n))))
   started-by false fits e f n = absurd (not-none 0 (sym (ap numberOfRefusal (rw e at n))))
 
-  pub started : {r : Called} {buffer : List ℕ} → PowerOnCalled p earlier room r buffer → r .refusal ≡ refusals.None → Started p (r .state)
+  pub started : {r : Called} {buffer : List ℕ} → PowerOnCalled p earlier room r buffer → r .refusal ≡ refusals.None → Started p r buffer
   started c n =
-      rw (c .returned)
+      rw (c .returned, c .left)
       (started-by (profileAllowed p) (fitsRoom (answerBytes p (Text 4)) room) refl refl (rw (c .returned) at n))

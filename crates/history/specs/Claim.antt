@@ -31,16 +31,17 @@ pub data Calls (p : Profile) : State → List Event → State → Type 0 where
   sampleCall : {s : State} {z : Load} {stable : Bool} {room : List ℕ} {r : Called} {buffer : List ℕ} {es : List Event} {s′ : State}
       → SampleCalled p s z stable room r buffer → Calls p (r .state) es s′ → Calls p s (sampleEvent z stable r buffer ∷ es) s′
 
--- What holds, of the profile and the events, over every list of calls from the state that a power-on not refused returned
-abbrev pub OverCalls : (Profile → List Event → Type 0) → Type 0
+-- What holds, of the profile, of what power-on sent and of the events, over every list of calls from the state that a power-on not
+-- refused returned
+abbrev pub OverCalls : (Profile → List ℕ → List Event → Type 0) → Type 0
 OverCalls Holds =
     (p : Profile) (earlier : State) (room : List ℕ) (r : Called) (buffer : List ℕ)
     → PowerOnCalled p earlier room r buffer
     → r .refusal ≡ refusals.None
     → (es : List Event) (s : State)
     → Calls p (r .state) es s
-    → Holds p es
+    → Holds p (take (r .count) buffer) es
 
 -- Demand 3: the tally accepts
 abbrev pub Demand3 : Type 0
-Demand3 = OverCalls (λ p es. accepts p startTally es ≡ true)
+Demand3 = OverCalls (λ p sent es. accepts p startTally es ≡ true)

@@ -1,5 +1,6 @@
--- End to end, over the lists of calls of demand 3: each line of each answer that the device sends is read by the host's reader, and
--- the value that the reader hands back for a weight is as near to the exact weight as demand 3 asks of the sent one.
+-- End to end, over the lists of calls of demand 3: each line of each answer that the device sends, power-on's own included, is read by
+-- the host's reader, and the value that the reader hands back for a weight is as near to the exact weight as demand 3 asks of the
+-- sent one.
 -- Assumes nothing.
 use Prim.Native.Nat.{ℕ, _*_}
 use mathlib.Core.Path.{_≡_}
@@ -36,13 +37,17 @@ piecesOf l = piecesAfter [] l
 
 -- ---- what the reader hands back
 
+-- the value of a weight may be as far off as the sent one
+abbrev pub valueAllowance : Profile → Tally → ℕ
+valueAllowance p t = allowance p t
+
 -- of a weight: the profile's unit, and a value within half a step (and half a microgram if the tare is typed) of the exact weight
 abbrev pub valueHolds : Profile → Tally → List ℕ → Answer → Bool
 valueHolds p t l Nothing = true
 valueHolds p t l (Plain h) = true
 valueHolds p t l (Weight h n) =
     sameText (unitText (n .unit)) (unitText (p .resolution .unit))
-    && leb (2 * natAbs (numberFemtograms p (n .decimals) (n .places .0) -ℤ exactWeight t l)) (allowance p t)
+    && leb (2 * natAbs (numberFemtograms p (n .decimals) (n .places .0) -ℤ exactWeight t l)) (valueAllowance p t)
 valueHolds p t l (Refused e) = true
 valueHolds p t l (Text c) = true
 valueHolds p t l (Listed last c) = true
@@ -65,5 +70,6 @@ hostAccepts p t (e ∷ es) =
     (not (eqb (e .refusal) 0) || piecesHold p (tallied p t (e .input) (e .answer)) (piecesOf (e .answer)))
     && hostAccepts p (afterEvent p t e) es
 
+-- what power-on sent is read too
 abbrev pub EndToEnd : Type 0
-EndToEnd = OverCalls (λ p es. hostAccepts p startTally es ≡ true)
+EndToEnd = OverCalls (λ p sent es. (piecesHold p startTally (piecesOf sent) && hostAccepts p startTally es) ≡ true)

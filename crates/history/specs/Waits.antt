@@ -112,4 +112,4 @@ waitsHold p w (e ∷ es) =
     (isEmpty (e .answer) && waitsHold p w es)
 
 abbrev pub WaitsEnd : Type 0
-WaitsEnd = OverCalls (λ p es. waitsHold p startWaits es ≡ true)
+WaitsEnd = OverCalls (λ p sent es. waitsHold p startWaits es ≡ true)

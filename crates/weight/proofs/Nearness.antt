@@ -166,6 +166,11 @@ near-naturals n a b over under =
 pub near-refl : (n : ℕ) (a : ℤ) → Near n a a
 near-refl n a = near-of-parts n a a (omega arith) (omega arith)
 
+-- what is near within n is near within more
+pub near-weaken : (n m : ℕ) (a b : ℤ) → n ≤ m → Near n a b → Near m a b
+unfolding Near
+near-weaken n m a b more h = omega (arith, more, h)
+
 -- two steps of nearness add
 pub near-triangle : (m n : ℕ) (a b c : ℤ) → Near m a b → Near n b c → Near (m + n) a c
 near-triangle m n a b c h k =

@@ -9,6 +9,7 @@ mod Following
 mod HostReads
 mod Pieces
 mod Reacting
+pub mod Rejected
 mod Stepping
 mod Tallying
 mod TypedLines

@@ -1,0 +1,69 @@
+-- The followers reject each wrong history of the table and accept its right twin, computed from their definitions.
+-- Assumes nothing.
+use mathlib.Core.Path.{_≡_, refl}
+use mathlib.Core.Bool.{true}
+use Rattle.answer.specs.Commands.{placeIn, placeOf}
+use Rattle.answer.specs.Lines.{headText, weightText, lineOf}
+use Rattle.host.specs.Reads.{guessed, confirms, readLine}
+use Rattle.text.specs.Field.{fieldOf}
+use Rattle.text.specs.Reading.{isDecimal, decimalsIn, valueIn, isWritten, readNumber, readField}
+use Rattle.text.specs.Units.{firstNamed, unitNamed}
+use Rattle.weight.specs.Field.{lastDigits, digitsIn, digitsOf, decimalOf, numberText, widthOf, fitsField}
+use Rattle.weight.specs.Rounding.{placeFemtograms, stepFemtograms, exactFemtograms}
+use Rattle.weight.specs.Typed.{typedFemtograms}
+use Rattle.history.specs.EndToEnd.{piecesAfter, piecesOf, piecesHold, hostAccepts}
+use Rattle.history.specs.Rejected.{weightRows, stateRows, waitRows, rows, allTell}
+use Rattle.history.specs.Tally.{afterReset, granted, weightHolds, loadHolds, typedHolds, tallied, holds, afterEvent, eventHolds, accepts}
+use Rattle.history.specs.Waits.{waitsHold}
+
+pub all-rejected : allTell rows ≡ true
+unfolding
+    weightRows
+    stateRows
+    waitRows
+    rows
+    allTell
+    afterReset
+    granted
+    weightHolds
+    loadHolds
+    typedHolds
+    tallied
+    holds
+    afterEvent
+    eventHolds
+    accepts
+    waitsHold
+    piecesAfter
+    piecesOf
+    piecesHold
+    hostAccepts
+    placeIn
+    placeOf
+    headText
+    weightText
+    lineOf
+    guessed
+    confirms
+    readLine
+    fieldOf
+    isDecimal
+    decimalsIn
+    valueIn
+    isWritten
+    readNumber
+    readField
+    firstNamed
+    unitNamed
+    lastDigits
+    digitsIn
+    digitsOf
+    decimalOf
+    numberText
+    widthOf
+    fitsField
+    placeFemtograms
+    stepFemtograms
+    exactFemtograms
+    typedFemtograms
+all-rejected = refl

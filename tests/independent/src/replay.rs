@@ -1,7 +1,7 @@
 //! The program replay of issue 6: a script in, the module's answers out.
 
 use crate::faults::Fault;
-use crate::module::{Module, Outcome, Sample, State};
+use crate::module::{Line, Module, Outcome, Sample, State};
 use crate::profile::{Profile, TEXT_ROOMS};
 use crate::tally::Call;
 use crate::weight::{Scale, Unit};
@@ -19,10 +19,21 @@ pub struct Event<'a> {
 /// What a script line asks for.
 enum Order {
     Nothing,
-    Profile { capacity: u32, margin: u32, zeroing: u32, patience: u32, scale: Scale },
-    Text { at: usize, text: Vec<u8> },
+    Profile {
+        capacity: u32,
+        margin: u32,
+        zeroing: u32,
+        patience: u32,
+        scale: Scale,
+    },
+    Text {
+        at: usize,
+        text: Vec<u8>,
+    },
     Room(usize),
     On,
+    /// Shows what no answer shows, and calls nothing.
+    State,
     Calls(Vec<Call>),
 }
 
@@ -51,6 +62,7 @@ impl Replay {
             Some(Order::Text { at, text }) => self.profile.texts[at] = text,
             Some(Order::Room(room)) => self.room = room,
             Some(Order::On) => self.on(out, watch),
+            Some(Order::State) => out.extend(self.state.as_ref().map_or(b"?\r\n".to_vec(), state_line)),
             Some(Order::Calls(_)) if self.state.is_none() => out.extend(b"?\r\n"),
             Some(Order::Calls(calls)) => calls.into_iter().for_each(|call| self.call(call, out, watch)),
         }
@@ -89,6 +101,28 @@ impl Replay {
     }
 }
 
+/// The state in words, each field once and in this order.
+fn state_line(state: &State) -> Vec<u8> {
+    let sample = state.latest.map_or("none".to_string(), |sample| {
+        let mark = if sample.stable { "s" } else { "u" };
+        format!("{mark} {}", sample.load)
+    });
+    let waits = state.waiting.map_or("none".to_string(), |wait| format!("{} {}", wait.name, wait.unstable));
+    let repeats = if state.repeating { "SIR" } else { "no" };
+    let shows = state.shown.as_ref().map_or(b"weight".to_vec(), |text| [b"\"", &text[..], b"\""].concat());
+    let before = format!("state zero {} tare {} sample {sample} waits {waits} repeats {repeats} shows ", state.zero, state.tare);
+    let after = format!(" line {}\r\n", line_words(&state.line));
+    [before.as_bytes(), &shows, after.as_bytes()].concat()
+}
+
+/// The bytes held, and what else is so; a CR that stands apart is not counted.
+fn line_words(line: &Line) -> String {
+    let over = if line.over { " over" } else { "" };
+    let faulty = if line.faulty { " faulty" } else { "" };
+    let cr = if line.cr { " cr" } else { "" };
+    format!("{}{over}{faulty}{cr}", line.bytes.len())
+}
+
 /// A whole script, from its bytes to the output's.
 pub fn replay(script: &[u8]) -> Vec<u8> {
     replay_with(Module::default(), script, &mut |_| {})
@@ -114,6 +148,9 @@ fn order(line: &[u8]) -> Option<Order> {
     }
     if line == b"on" {
         return Some(Order::On);
+    }
+    if line == b"state" {
+        return Some(Order::State);
     }
     let at = line.iter().position(|&byte| byte == b' ')?;
     let rest = &line[at + 1..];

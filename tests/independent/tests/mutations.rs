@@ -4,9 +4,9 @@ use independent::compare::{capture_bytes, difference, script_bytes, shown, Judge
 use independent::decode::{decode, decode_with};
 use independent::faults::{Fault, OF_THE_MODULE, OF_THE_READER};
 use independent::module::Module;
-use independent::random::{capture, script, Rng};
+use independent::random::{capture, script, Rng, MOST_UNSEEN};
 use independent::reader::Reader;
-use independent::replay::{replay, replay_with};
+use independent::replay::{replay, replay_with, Replay};
 
 const SEED: u64 = 1;
 const SCRIPTS: usize = 400;
@@ -40,18 +40,41 @@ fn scripts(count: usize) -> Vec<Script> {
     (0..count).map(|_| script(&mut rng)).collect()
 }
 
+/// The input of the answers alone.
+fn without_state(script: &[Vec<u8>]) -> Vec<u8> {
+    let lines: Script = script.iter().filter(|line| *line != b"state").cloned().collect();
+    script_bytes(&lines)
+}
+
 #[test]
 fn every_fault_of_the_module_is_noticed() {
-    let scripts = scripts(SCRIPTS);
+    let inputs: Vec<Vec<u8>> = scripts(SCRIPTS).iter().map(|one| script_bytes(one)).collect();
+    let told: Vec<Vec<u8>> = inputs.iter().map(|input| replay(input)).collect();
     let mut unnoticed = vec![];
     for &fault in OF_THE_MODULE {
         let faulty = |input: &[u8]| replay_with(Module { fault: Some(fault) }, input, &mut |_| {});
-        match scripts.iter().position(|one| faulty(&script_bytes(one)) != replay(&script_bytes(one))) {
+        match inputs.iter().zip(&told).position(|(input, told)| faulty(input) != *told) {
             Some(at) => println!("{fault:?}: noticed by script {at}"),
             None => unnoticed.push(fault),
         }
     }
     assert!(unnoticed.is_empty(), "not noticed: {unnoticed:?}");
+}
+
+/// `state` stands often enough in the histories.
+#[test]
+fn few_calls_go_unseen() {
+    for one in scripts(SCRIPTS) {
+        let (mut replay, mut unseen) = (Replay::new(Module::default()), 0);
+        for line in &one {
+            replay.line(line, &mut vec![], &mut |_| unseen += 1);
+            assert!(unseen <= MOST_UNSEEN, "{}", shown(&script_bytes(&one)));
+            if line == b"state" {
+                unseen = 0;
+            }
+        }
+        assert_eq!(unseen, 0, "`state` ends the history");
+    }
 }
 
 #[test]
@@ -91,7 +114,7 @@ fn a_difference_is_shown_by_a_short_script() {
 
 #[test]
 fn the_tally_notices_wrong_weights() {
-    let input = script_bytes(&scripts(JUDGED_SCRIPTS).concat());
+    let input = without_state(&scripts(JUDGED_SCRIPTS).concat());
     let judged = |fault| {
         let mut judge = Judge::default();
         replay_with(Module { fault }, &input, &mut |event| judge.see(event));

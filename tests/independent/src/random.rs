@@ -289,7 +289,8 @@ impl Maker<'_> {
 
     fn step(&mut self) {
         match self.rng.below(100) {
-            0..=32 => self.sample(),
+            0..=30 => self.sample(),
+            31..=32 => self.show(),
             33..=62 => self.command(),
             63..=75 => self.odd_line(),
             76..=82 => self.raw_line(),
@@ -726,6 +727,41 @@ impl Maker<'_> {
                 _ => self.sample(),
             }
         }
+    }
+
+    /// A text is shown, then comes what has to leave it, or what takes it away.
+    fn show(&mut self) {
+        let text = text_of(self.rng, 20);
+        self.send([b"D \"", &text[..], b"\""].concat());
+        for _ in 0..self.rng.between(1, 3) {
+            match self.rng.below(9) {
+                0 | 1 => self.command(),
+                2 => self.raw_line(),
+                3 => {
+                    let line = self.rng.pick(&["> DW ", "> DW 1", "> D", "> D \"", "> DWW", "> dw", "> @ ", "> D \"\""]);
+                    self.say(line);
+                }
+                4 => self.other_profile(),
+                5 => self.short_room(),
+                6 => self.refused_on(),
+                7 => self.wait(),
+                _ => self.sample(),
+            }
+        }
+        self.look();
+        let line = self.rng.pick(&["> DW", "> @", "on"]);
+        self.say(line);
+        self.look();
+    }
+
+    fn refused_on(&mut self) {
+        let former = self.replay.profile.clone();
+        let bad = bad_profile(self.rng, &former);
+        let with_texts = bad.texts != former.texts;
+        self.set_profile(&bad, with_texts);
+        self.say("on");
+        self.look();
+        self.set_profile(&former, with_texts);
     }
 
     /// A tare that does not stand at a display step, then weights around a tie.

@@ -7,6 +7,8 @@ use crate::tally::Call;
 use crate::weight::{Scale, Unit};
 
 const MOST: u64 = 4_294_967_295;
+/// What a lent buffer holds before a call, in the largest room.
+const LENT: [u8; 1024] = [0xA5; 1024];
 
 /// One call as the tally and the counters see it; no call is a power-on.
 pub struct Event<'a> {
@@ -69,19 +71,16 @@ impl Replay {
     }
 
     fn on(&mut self, out: &mut Vec<u8>, watch: &mut dyn FnMut(&Event)) {
-        let mut buffer = vec![0; self.room];
+        let mut buffer = LENT[..self.room].to_vec();
         let mut state = self.state.clone().unwrap_or_default();
         let outcome = self.module.power_on(&self.profile, &mut state, &mut buffer);
-        if outcome.refusal == 0 {
-            self.state = Some(state);
-        } else if self.module.fault == Some(Fault::RefusedOnForgetsState) {
-            self.state = None;
-        }
+        let given_back = self.state.is_some() && self.module.fault != Some(Fault::RefusedOnForgetsState);
+        self.state = (outcome.refusal == 0 || given_back).then_some(state);
         self.tell(None, outcome, &buffer, out, watch);
     }
 
     fn call(&mut self, call: Call, out: &mut Vec<u8>, watch: &mut dyn FnMut(&Event)) {
-        let mut buffer = vec![0; self.room];
+        let mut buffer = LENT[..self.room].to_vec();
         let Some(state) = self.state.as_mut() else { return };
         let outcome = match call {
             Call::Byte { byte, good } => self.module.byte(&self.profile, state, byte, u8::from(!good), &mut buffer),
@@ -96,6 +95,9 @@ impl Replay {
             out.extend(answer);
         } else {
             out.extend(format!("refused {}\r\n", outcome.refusal).bytes());
+        }
+        if buffer[outcome.n..] != LENT[outcome.n..buffer.len()] {
+            out.extend(b"spilt\r\n");
         }
         watch(&Event { call, profile: &self.profile, refusal: outcome.refusal, answer });
     }

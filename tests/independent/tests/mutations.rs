@@ -12,6 +12,7 @@ const SEED: u64 = 1;
 const SCRIPTS: usize = 400;
 /// The tally sees a unit that is a little short only beside a tie, so it gets more.
 const JUDGED_SCRIPTS: usize = 1_600;
+const SILENT_SCRIPTS: usize = 100;
 const CAPTURES: usize = 200;
 
 /// Faults that break demand 3, so that the tally alone has to notice them.
@@ -33,6 +34,39 @@ const JUDGED: &[Fault] = &[
     Fault::FirstSampleKept,
     Fault::TypedRoundedToStep,
     Fault::QueryClearsTare,
+];
+
+/// Faults that no answer shows, so that `state` alone has to.
+const SILENT: &[Fault] = &[
+    Fault::DwKeepsText,
+    Fault::ResetKeepsText,
+    Fault::PowerOnKeepsText,
+    Fault::TextNotShown,
+    Fault::EmptyTextShowsWeight,
+    Fault::TextCutShort,
+    Fault::HighBytesReplaced,
+    Fault::WrongTextShowsWeight,
+    Fault::BusyTextShown,
+    Fault::BusyDwShowsWeight,
+    Fault::LogicalDwShowsWeight,
+    Fault::ErrorShowsWeight,
+    Fault::SampleShowsWeight,
+    Fault::TimeoutShowsWeight,
+    Fault::ReadingShowsWeight,
+    Fault::ZeroingShowsWeight,
+    Fault::TaringShowsWeight,
+    Fault::TypedTareShowsWeight,
+    Fault::ListShowsWeight,
+    Fault::RefusalOneShowsWeight,
+    Fault::RefusalTwoShowsWeight,
+    Fault::RefusalThreeShowsWeight,
+    Fault::RefusedOnShowsWeight,
+    Fault::OverEmptiesLine,
+    Fault::FaultyByteLeftOut,
+    Fault::NothingHeldAfterFault,
+    Fault::FaultSetsOver,
+    Fault::FaultHidesOver,
+    Fault::ControlSetsOver,
 ];
 
 fn scripts(count: usize) -> Vec<Script> {
@@ -59,6 +93,18 @@ fn every_fault_of_the_module_is_noticed() {
         }
     }
     assert!(unnoticed.is_empty(), "not noticed: {unnoticed:?}");
+}
+
+#[test]
+fn no_answer_shows_the_silent_faults() {
+    for one in scripts(SILENT_SCRIPTS) {
+        let input = without_state(&one);
+        let told = replay(&input);
+        for &fault in SILENT {
+            let faulty = replay_with(Module { fault: Some(fault) }, &input, &mut |_| {});
+            assert!(faulty == told, "{fault:?} is shown by an answer to\n{}", shown(&input));
+        }
+    }
 }
 
 /// `state` stands often enough in the histories.
@@ -95,8 +141,14 @@ fn every_fault_of_the_reader_is_noticed() {
 /// No line and no byte of the script shown can be left out.
 #[test]
 fn a_difference_is_shown_by_a_short_script() {
-    for fault in [Fault::ResetKeepsRepetition, Fault::FaultPastLimitForgotten, Fault::TareKeptAfterTimeout, Fault::CountUnjudged]
-    {
+    for fault in [
+        Fault::ResetKeepsRepetition,
+        Fault::FaultPastLimitForgotten,
+        Fault::TareKeptAfterTimeout,
+        Fault::CountUnjudged,
+        Fault::ResetKeepsText,
+        Fault::OverEmptiesLine,
+    ] {
         let faulty = |input: &[u8]| replay_with(Module { fault: Some(fault) }, input, &mut |_| {});
         let shortest = difference(&scripts(SCRIPTS), script_bytes, &faulty, &replay).expect("a difference");
         println!("{fault:?}\n{}", shown(&script_bytes(&shortest)));
@@ -114,14 +166,16 @@ fn a_difference_is_shown_by_a_short_script() {
 
 #[test]
 fn the_tally_notices_wrong_weights() {
-    let input = without_state(&scripts(JUDGED_SCRIPTS).concat());
-    let judged = |fault| {
+    let inputs: Vec<Vec<u8>> = scripts(JUDGED_SCRIPTS).iter().map(|one| without_state(one)).collect();
+    let judged = |fault, input: &[u8]| {
         let mut judge = Judge::default();
-        replay_with(Module { fault }, &input, &mut |event| judge.see(event));
+        replay_with(Module { fault }, input, &mut |event| judge.see(event));
         judge.faults
     };
-    assert_eq!(judged(None), Vec::<String>::new());
+    for input in &inputs {
+        assert_eq!(judged(None, input), Vec::<String>::new());
+    }
     for &fault in JUDGED {
-        assert!(!judged(Some(fault)).is_empty(), "{fault:?}");
+        assert!(inputs.iter().any(|input| !judged(Some(fault), input).is_empty()), "{fault:?}");
     }
 }

@@ -1,4 +1,4 @@
-//! The bench cases of document 01 and the worked examples of the manuals, as scripts with what they print.
+//! The bench cases of document 01, the worked examples of the manuals and some states, as scripts with what they print.
 
 pub struct Case {
     pub name: &'static str,

@@ -647,8 +647,9 @@ impl Module {
 
     fn repeated(&self, profile: &Profile, state: &mut State) -> Vec<u8> {
         let text = self.reading(profile, state);
-        let outside = text == answer("S +") || text == answer("S -");
-        state.repeating &= !(outside && self.has(Fault::OverloadEndsRepetition));
+        if self.has(Fault::OverloadEndsRepetition) {
+            state.repeating = !text.starts_with(b"S +") && !text.starts_with(b"S -");
+        }
         text
     }
 

@@ -211,8 +211,8 @@ fn text_line(at: usize, text: &[u8]) -> Vec<u8> {
 
 // Scripts.
 
-/// In every history a `state` line stands before the call that would be the next after so many without one, and at the end.
-/// Command lines and runs of bytes that are longer are sent in pieces.
+/// No history makes more calls than this without a `state` line between them, and each ends with one. Command lines and runs of
+/// bytes that are longer are sent in pieces.
 pub const MOST_UNSEEN: usize = 20;
 
 /// A script that starts anew: profile, texts, room, power-on.
@@ -239,6 +239,7 @@ impl Maker<'_> {
     fn add(&mut self, line: Vec<u8>) {
         let mut calls = 0;
         self.replay.line(&line, &mut vec![], &mut |_| calls += 1);
+        assert!(calls <= MOST_UNSEEN, "a script line makes too many calls");
         if self.unseen + calls > MOST_UNSEEN {
             self.look();
         }

@@ -21,20 +21,10 @@ pub struct Event<'a> {
 /// What a script line asks for.
 enum Order {
     Nothing,
-    Profile {
-        capacity: u32,
-        margin: u32,
-        zeroing: u32,
-        patience: u32,
-        scale: Scale,
-    },
-    Text {
-        at: usize,
-        text: Vec<u8>,
-    },
+    Profile { capacity: u32, margin: u32, zeroing: u32, patience: u32, scale: Scale },
+    Text { at: usize, text: Vec<u8> },
     Room(usize),
     On,
-    /// Shows what no answer shows, and calls nothing.
     State,
     Calls(Vec<Call>),
 }
@@ -103,7 +93,7 @@ impl Replay {
     }
 }
 
-/// The state in words, each field once and in this order.
+/// What no answer shows: the state in words, each field once and in this order. A text stands there byte for byte.
 fn state_line(state: &State) -> Vec<u8> {
     let sample = state.latest.map_or("none".to_string(), |sample| {
         let mark = if sample.stable { "s" } else { "u" };

@@ -13,7 +13,7 @@ pub fn scripts() -> Vec<Script> {
     scripts
 }
 
-/// A script on profile A, from its lines; each is followed by `state`.
+/// A script on profile A, from its lines, each followed by `state`.
 fn script(lines: impl IntoIterator<Item = String>) -> Script {
     let start =
         ["profile 220000000 1000000 4400000 3 g 4 1", "text 2 ", "text 3 ", "text 4 VA-0001", "text 5 ", "room 256", "on"];

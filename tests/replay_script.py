@@ -10,9 +10,15 @@ out = []
 def w(*lines):
     for line in lines:
         out.append(line.encode('latin-1') if isinstance(line, str) else line)
+def seen(*lines):
+    """Each line, and what state it leaves."""
+    for line in lines:
+        w(line, "state")
 def part(*comment):
-    w("")
-    for c in comment: w("# " + c)
+    """The part before ends with the state that it leaves."""
+    w("state", "")
+    for c in comment:
+        w("# " + c)
 def start(profile=A, *more):
     w(profile, *more, "on")
 def hexed(text): return " ".join("%02X" % b for b in text.encode('latin-1'))
@@ -20,14 +26,16 @@ def hexed(text): return " ".join("%02X" % b for b in text.encode('latin-1'))
 w("# Plays every rule of document 01 once. Its stdout is what the independent implementation prints for it.",
   "# Profile A stands at the start: C 220 g, U 1 g, R 4.4 g, W 3, g, 4 decimals, step 1, I4 VA-0001, the other texts empty.")
 
-part("Before a power-on is granted every call is `?`, and a refused one leaves it so.")
-w("> S", "> ", "b 53", "f 53", "s 1", "u 1", "room 15", "on", "> S", "room 16", "on", "> S", "@ on", "room 256")
+part("Before a power-on is granted every call and `state` is `?`, and a refused one leaves it so.")
+seen("> S", "> ", "b 53", "f 53", "s 1", "u 1")
+seen("room 15", "on", "> S", "room 16", "on", "> S", "@ on", "room 256")
 
 part("Document 01's conversation.")
 start()
 w("> S", "s 14256050", "> T", "s 14256100", "> SI", "> Q")
 
 part("Lines that are none of the script's: each is one `?` and calls nothing.")
+w("state ", " state", "State", "STATE", "state x", "state 1", "states", "stat", "state\r", "state\t", "# state")
 w("on ", " on", "ON", "of", "b", "f", ">", "s", "u", "b ", "f ", "s ", "u ", "text", "room", "profile")
 w("b 5", "b 530", "b 53 ", "b  53", "b 53  0D", "b 5G", "b 53 0D 0", "b 44 57 0D 0A x", "f 53,0D", "b 53\r",
   "s +1", "s 1 ", "s  1", "s --1", "s -", "s 1.0", "s 12345678901", "s 2147483648", "s -2147483649", "s 9999999999", "u 0x10", "s 1\r",
@@ -42,21 +50,23 @@ w("b 64 57 0d 0A", "b 44 57 0d 0a", "b 44 57 0D 0A", "s 0000000007", "s -0", "s 
 
 part("Order 1: a faulty byte goes before everything else, also before a reset.")
 start()
-w("f 40", "b 0D 0A", "b 51", "f 51", "b 0D 0A")
-w("b 53 20 31", "f 31", "b 0D 0A")
+seen("f 40", "b 0D 0A", "b 51", "f 51", "b 0D 0A")
+seen("b 53 20 31", "f 31", "b 0D 0A")
 part("Order 2: a byte below 32, or no name, goes before what follows the name.")
 w("> ", "> s", "> Q", "> Q 1", "> SIX", "> SIX 1", "> S1", "> \"S\"", "> S\t", "> D \"a\tb\"", "> TA 1 g\r", "b 53 1F 0D 0A", "b 53 00 0D 0A", "b 20 53 0D 0A", "b 53 7F 0D 0A", "b FF 0D 0A")
 part("Order 3: anything after a name that takes no parameters; one space is enough.")
 for n in NAMES:
-    if n not in ("D", "TA"): w("> %s " % n, "> %s 1" % n)
+    if n not in ("D", "TA"):
+        seen("> %s " % n, "> %s 1" % n)
 w("> S  ", "> SI SI", "> TAC 1 g", "> @ @")
 part("Order 4: a reset, also while a command waits; its wait ends unanswered.")
-w("> T", "> @", "s 5000", "> TA")
+seen("> T", "> @", "s 5000", "> TA")
 part("Order 5: while a command waits, every name but @ answers I, with wrong parameters too. Rows 1 to 3 go before.")
 start()
 w("> S")
 for n in NAMES:
-    if n != "@": w("> " + n)
+    if n != "@":
+        seen("> " + n)
 w("> D \"a\"", "> D a", "> TA 1 g", "> TA x", "> Q", "> S 1", "f 51", "b 0D 0A", "> ", "s 20000", "> SI")
 part("Order 6: wrong parameters, with no sample yet.")
 start()
@@ -68,7 +78,8 @@ w("> SI", "> SIR", "> TI", "> ZI", "s 1", "> SI", "on", "> SI", "> SIR", "> TI",
 part("Order 8: the commands' own rules, with nothing waiting.")
 start()
 w("s 30000")
-for n in NAMES: w("> " + n)
+for n in NAMES:
+    seen("> " + n)
 w("> D \"\"", "> D \"12345678901234567890\"", "> D \"" + "\xff\x80 !" + "\"", "> DW", "> TA 0 g", "> TA 0000000000 g", "> TA 220 g", "> TA 0.000001 g", "> TA 0.000049 g", "> TA 0.00005 g", "> TA 123.456789 g", "> TAC", "> TA")
 
 part("Lines of 63, 64, 65 and 200 bytes: a name with spaces, TA with digits, a shown text, letters.")
@@ -142,6 +153,71 @@ start(); w("s 1000", "> Z", "s 5000", "> T", "> D \"x\"", "> @", "> SI", "> TA",
 part("Zeroing drops the tare; what is refused keeps it.")
 start(); w("s 5000", "> T", "s 4400001", "> Z", "> ZI", "> TA", "s 6000", "> ZI", "> TA", "> SI", "u 7000", "> TI", "> ZI", "> TA")
 
+part("The display: D shows its text, DW and @ and a power-on bring the weight back.")
+start()
+seen("> D \"HALLO\"", "> DW", "> D \"HALLO\"", "> @", "> D \"HALLO\"", "on", "> DW")
+seen("> D \"\"", "> D \"x\"", "> D \"12345678901234567890\"", "> D \"\xff\x80 !#\x7f \"", "> @")
+part("The display stays as it is when D or DW is refused, by every error, and by every other command and its +, - and I.")
+start()
+seen("> D \"TEXT 1\"", "> D \"123456789012345678901\"", "> D TEXT", "> D", "> D \"", "> D \"a\"b\"")
+seen("> DW 1", "> DW ", "> dw", "> @ ", "> Q", "> ", "f 44", "b 57 0D 0A", "> D \"a\tb\"")
+seen("> SI", "> SIR", "> TI", "> ZI", "> TA x")
+seen("s 220000001", "> S", "> SI", "> T", "> TI", "> Z", "> ZI")
+seen("s -4400001", "> S", "> SI", "> T", "> TI", "> Z", "> ZI")
+w("s 30000")
+for n in NAMES:
+    if n not in ("@", "DW"):
+        seen("> " + n)
+part("The display while a command waits: D and DW answer I and show nothing, and the wait's end leaves the text, by a judgement",
+     "and by I. The count is of the samples of this wait alone: it starts anew after an I, a judgement and a reset.")
+for n in "STZ":
+    start()
+    seen("> D \"TEXT\"", "u 1000", "> " + n, "> DW", "> D \"OTHER\"", "> D x", "> " + n, "u 2000", "> Q", "u 3000", "u 4000")
+    seen("> " + n, "u 5000", "s 6000")
+    seen("u 1000", "> " + n, "u 2000", "u 3000", "> @", "> " + n, "u 4000", "on")
+part("Whether SIR repeats: begun by its own answer, also by + and -, not by I or EL;",
+     "ended by S, SI, @ and a power-on, not by others.")
+start()
+seen("> SIR", "s 1000", "> SIR 1", "> SIR", "s 2000", "> S", "> SIR", "> SI", "> SIR", "> @", "> SIR", "on")
+seen("s 220000001", "> SIR", "s -1000001", "> SIR", "> SI")
+seen("u 1000", "> T", "> SIR", "u 2000", "s 3000")
+seen("> SIR", "u 3000", "> T", "> S", "> SI", "u 4000", "s 5000", "> Q", "> DW", "> TAC", "> Z")
+seen("u 3000", "> Z", "u 4000", "u 5000", "u 6000", "u 7000", "> S", "u 8000", "> @")
+part("Zero and tare to the microgram, and the sample, which answers show only to a display step.")
+start()
+seen("s 49", "> T", "> TAC", "s -49", "> Z", "u 51", "> TI", "> ZI", "s 4400000", "> ZI", "s -4400000", "> Z")
+seen("s 0", "> T", "> @", "> TA 0.000001 g", "> TA 123.456789 g", "> TA 220.000001 g", "> TA", "> @")
+seen("s 2147483647", "u -2147483648")
+start("profile 99999999 0 4400000 3 mg 3 1")
+seen("> TA 0.0005 mg", "> TA 0.000499 mg", "> TA 1.001500 mg", "> TA 1.001499 mg", "> TAC")
+start("profile 220000000 1000000 4400000 3 oz 5 1")
+seen("> TA 0.000001 oz", "> TA 0.00003 oz", "> TA 0.01 oz", "> TA 7.5 oz", "s 28349523", "> T")
+part("The line on its way: its bytes, a CR that may end it, a faulty byte, and more than 64 bytes.")
+start()
+seen("b 44", "b 57", "b 0D", "b 0A", "b 44 0D", "b 0D", "b 57", "b 0D 0A", "b 0A", "b 0D", "b 0A")
+seen("b 44", "f 57", "b 0D", "b 0A", "f 0D", "b 0A", "b 0D", "f 0A", "b 0D", "b 0A")
+seen("b " + hexed("S" * 63), "b 53", "b 0D", "b 0A")
+seen("b " + hexed("S" * 64), "b 53", "b 53", "b 0D", "b 0A")
+seen("b " + hexed("S" * 64), "b 0D", "b 0D", "b 0A")
+seen("b " + hexed("S" * 64), "b 0D", "b 53", "b 0D", "b 0A")
+seen("b " + hexed("S" * 64), "f 53", "b 53", "b 0D", "b 0A")
+seen("b " + hexed("S" * 64), "f 0D", "b 0A", "b 0D", "f 0A", "b 0D", "b 0A")
+seen("f " + hexed("S" * 65), "b 53", "b 0D", "f 0D", "b 0D 0A")
+seen("b 01 00 1F", "b 0D 0A", "b 44 57", "on", "b 0D 0A", "f 44", "b 0D", "on", "b 0A", "b 0D 0A")
+part("A refused call takes nothing: by 3, by 1, by 2, and a refused power-on.")
+start()
+seen("> D \"TEXT\"", "s 5000", "> Z", "s 7000", "> T", "> SIR", "b 44")
+seen("room 17", "s 1", "u 2", "room 0", "b 57 0D", "b 0A", "room 256")
+seen("profile 0 0 0 0 g 9 9", "b 0A", "f 0A", "s 1", "on")
+seen("profile 220000000 1000000 4999 3 g 4 1", "b 0A", "s 1")
+seen("profile 1999 1000 1999 3 g 4 1", "b 0A", "u 1")
+w(A)
+seen("room 15", "on", "room 256", "b 0A", "u 8000")
+seen("> S", "u 1", "u 2", "room 0", "u 3", "s 4", "room 256")
+seen("profile 220000000 1000000 4400000 2 g 4 1", "u 3", "> @")
+w(A)
+seen("u 3", "on")
+
 part("What the manual 003 prints for these commands.")
 H = "profile 220000000 1000000 4400000 3 g 2 1"
 start(H); w("s 100000000", "> S", "u 129070000", "> SI", "u 129070000", "> SIR", "u 129080000", "s 129090000", "s 129090000", "u 114870000", "> SI")
@@ -196,7 +272,7 @@ part("In a room of 0 a line is received up to its CR.")
 w("room 0", "b 44 57 0D", "b 0A", "b 0A", "room 6", "b 0A", "room 256")
 
 part("Comments and empty lines are passed over, a line of CR alone is not empty; the last line of this script has no LF.")
-w("#", "#on", "# on", "#\r", "", "\r")
+w("#", "#on", "# on", "#\r", "", "\r", "state")
 w("> I5")
 data = b"\n".join(out)
 sys.stdout.buffer.write(data)

@@ -1,4 +1,4 @@
-//! The bench cases of document 01 and the worked examples of the manuals, as scripts with what they print.
+//! The bench cases of document 01, the worked examples of the manuals and some states, as scripts with what they print.
 
 pub struct Case {
     pub name: &'static str,
@@ -29,7 +29,10 @@ fn refused(name: &'static str, profile: &str) -> Case {
 }
 
 pub fn all() -> Vec<Case> {
-    [printing(), ranges(), zeroing_and_taring(), waiting(), lines(), profiles(), manuals()].into_iter().flatten().collect()
+    [printing(), ranges(), zeroing_and_taring(), waiting(), lines(), profiles(), states(), manuals()]
+        .into_iter()
+        .flatten()
+        .collect()
 }
 
 fn printing() -> Vec<Case> {
@@ -151,6 +154,74 @@ fn profiles() -> Vec<Case> {
             "refusals on a changed profile",
             &["s 5000", "> Z", "profile 220000000 1000000 4999 3 g 4 1", "> DW", "profile 0 1 4999 3 g 4 1", "s 1", A, "> DW"],
             &["Z A", "refused 2", "refused 2", "refused 2", "refused 2", "refused 1", "DW A"],
+        ),
+    ]
+}
+
+/// What no answer shows.
+fn states() -> Vec<Case> {
+    let after_on = "state zero 0 tare 0 sample none waits none repeats no shows weight line 0";
+    let text_shown = "state zero 0 tare 0 sample none waits none repeats no shows \"HALLO\" line 0";
+    let full = format!("b{}", " 53".repeat(64));
+    vec![
+        on_a("after power-on", &["state"], &[after_on]),
+        on_a("D and DW on the display", &["> D \"HALLO\"", "state", "> DW", "state"], &["D A", text_shown, "DW A", after_on]),
+        on_a("D and @ on the display", &["> D \"HALLO\"", "state", "> @", "state"], &["D A", text_shown, ON, after_on]),
+        on_a(
+            "what is refused leaves the display",
+            &["> D \"HALLO\"", "> D HA", "> DW 1", "> dw", "f 44", "b 57 0D 0A", "state"],
+            &["D A", "D L", "EL", "ES", "ET", text_shown],
+        ),
+        on_a(
+            "a display while a command waits",
+            &["> D \"HALLO\"", "> S", "> DW", "> D \"\"", "state", "> @", "state"],
+            &["D A", "DW I", "D I", &text_shown.replace("waits none", "waits S 0"), ON, after_on],
+        ),
+        on_a(
+            "a wait counts unstable samples, and the next starts anew",
+            &["> Z", "u 1", "u 2", "state", "u 3", "state", "> T", "state"],
+            &[
+                "state zero 0 tare 0 sample u 2 waits Z 2 repeats no shows weight line 0",
+                "Z I",
+                "state zero 0 tare 0 sample u 3 waits none repeats no shows weight line 0",
+                "state zero 0 tare 0 sample u 3 waits T 0 repeats no shows weight line 0",
+            ],
+        ),
+        on_a(
+            "zero, tare and repetition",
+            &["s -70", "> Z", "s -21", "> T", "> SIR", "state", "> SI", "state", "> @", "state"],
+            &[
+                "Z A",
+                "T S     0.0000 g",
+                "S S     0.0000 g",
+                "state zero -70 tare 49 sample s -21 waits none repeats SIR shows weight line 0",
+                "S S     0.0000 g",
+                "state zero -70 tare 49 sample s -21 waits none repeats no shows weight line 0",
+                ON,
+                "state zero -70 tare 0 sample s -21 waits none repeats no shows weight line 0",
+            ],
+        ),
+        on_a(
+            "a line on its way",
+            &[&full, "state", "b 0D", "state", "f 0D", "state", "b 0D", "state", "b 0A", "state"],
+            &[
+                "state zero 0 tare 0 sample none waits none repeats no shows weight line 64",
+                "state zero 0 tare 0 sample none waits none repeats no shows weight line 64 cr",
+                "state zero 0 tare 0 sample none waits none repeats no shows weight line 64 over faulty",
+                "state zero 0 tare 0 sample none waits none repeats no shows weight line 64 over faulty cr",
+                "ET",
+                after_on,
+            ],
+        ),
+        on_a(
+            "a refused call takes nothing",
+            &["> T", "u 5", "room 4", "u 6", "s 7", "state", "b 44 57 0D", "room 0", "b 0A", "state"],
+            &[
+                "refused 3",
+                "state zero 0 tare 0 sample u 6 waits T 2 repeats no shows weight line 0",
+                "refused 3",
+                "state zero 0 tare 0 sample u 6 waits T 2 repeats no shows weight line 2 cr",
+            ],
         ),
     ]
 }

@@ -38,7 +38,20 @@ faults! {
     // reset and the rest
     ResetKeepsTare, ResetKeepsWaiting, ResetKeepsRepetition, ResetForgetsSample, ResetClearsZero, ResetUnanswered,
     TextOf21Shown, QuoteShown, LastListedB, LevelOneComplete, TextsSwapped,
+    // the display
+    DwKeepsText, ResetKeepsText, PowerOnKeepsText, TextNotShown, EmptyTextShowsWeight, TextCutShort, HighBytesReplaced,
+    WrongTextShowsWeight, BusyTextShown, BusyDwShowsWeight, LogicalDwShowsWeight, ErrorShowsWeight, SampleShowsWeight,
+    TimeoutShowsWeight, ReadingShowsWeight, ZeroingShowsWeight, TaringShowsWeight, TypedTareShowsWeight, ListShowsWeight,
+    RefusalOneShowsWeight, RefusalTwoShowsWeight, RefusalThreeShowsWeight, RefusedOnShowsWeight,
+    // the line held
+    OverEmptiesLine, FaultyByteLeftOut, NothingHeldAfterFault, FaultSetsOver, FaultHidesOver, ControlSetsOver, CrHeldAtOnce,
+    BytesKept, OverKept, FaultKept, CrKept, PowerOnKeepsLine,
+    // what else is kept
+    CountNotReset, BusyLineCounted, BusyStartsOver, BusyTakesOver, PowerOnKeepsWait, BusySirStarts, LogicalSirStarts,
+    ErrorEndsRepetition, TimeoutEndsRepetition, OverloadEndsRepetition, PowerOnKeepsRepetition, OverloadCutDown,
+    WaitingKeepsSample, TimeoutForgetsSample, ResetMarksUnstable, PowerOnKeepsSample,
     // refusals
+    BytePastAnswerWritten, RefusalWritesBuffer,
     RefusalTwoFirst, RefusalThreeFirst, RoomOffByOne, ShortRoomTakes, ZeroUnjudged, TareUnjudged, CountUnjudged,
     RefusedOnForgetsState,
     ;

@@ -62,6 +62,8 @@ pub struct State {
     pub repeating: bool,
     /// The text that D shows; none when the weight is shown.
     pub shown: Option<Vec<u8>>,
+    /// The count of the last wait; only a planted fault keeps and reads it.
+    pub spent: u32,
 }
 
 /// The refusal number, 0 for none, and the length of the answer.
@@ -94,16 +96,33 @@ impl Module {
 
     pub fn power_on(&self, profile: &Profile, state: &mut State, buffer: &mut [u8]) -> Outcome {
         if profile.is_refused(self.fault) {
-            return refused(1);
+            if self.has(Fault::RefusedOnShowsWeight) {
+                state.shown = None;
+            }
+            return self.refuse(1, state, buffer);
         }
         let answer = self.text_line(profile, "I4");
-        self.finish(state, State::default(), &answer, buffer)
+        self.finish(state, self.started(state), &answer, buffer)
+    }
+
+    /// The state that power-on gives; only faults look at the one that it is handed.
+    fn started(&self, given: &State) -> State {
+        let mut state = State::default();
+        match self.fault {
+            Some(Fault::PowerOnKeepsText) => state.shown = given.shown.clone(),
+            Some(Fault::PowerOnKeepsLine) => state.line = given.line.clone(),
+            Some(Fault::PowerOnKeepsWait) => state.waiting = given.waiting,
+            Some(Fault::PowerOnKeepsRepetition) => state.repeating = given.repeating,
+            Some(Fault::PowerOnKeepsSample) => state.latest = given.latest,
+            _ => {}
+        }
+        state
     }
 
     /// A mark of 0 is good, any other faulty.
     pub fn byte(&self, profile: &Profile, state: &mut State, byte: u8, mark: u8, buffer: &mut [u8]) -> Outcome {
         if let Some(number) = self.refusal(profile, state) {
-            return refused(number);
+            return self.refuse(number, state, buffer);
         }
         let mut next = state.clone();
         let mut answer = vec![];
@@ -115,7 +134,7 @@ impl Module {
 
     pub fn sample(&self, profile: &Profile, state: &mut State, sample: Sample, buffer: &mut [u8]) -> Outcome {
         if let Some(number) = self.refusal(profile, state) {
-            return refused(number);
+            return self.refuse(number, state, buffer);
         }
         let mut next = state.clone();
         let answer = self.weigh(profile, &mut next, sample);
@@ -131,11 +150,30 @@ impl Module {
             } else if self.has(Fault::LineKeptAfterRefusal) {
                 state.line.cr = false;
             }
-            return refused(3);
+            return self.refuse(3, state, buffer);
+        }
+        if self.has(Fault::BytePastAnswerWritten) && !answer.is_empty() && buffer.len() > answer.len() {
+            buffer[answer.len()] = 0;
         }
         buffer[..answer.len()].copy_from_slice(answer);
         *state = next;
         Outcome { refusal: 0, n: answer.len() }
+    }
+
+    /// A refusal leaves the state and the buffer.
+    fn refuse(&self, refusal: u8, state: &mut State, buffer: &mut [u8]) -> Outcome {
+        let shows_weight = match refusal {
+            1 => Fault::RefusalOneShowsWeight,
+            2 => Fault::RefusalTwoShowsWeight,
+            _ => Fault::RefusalThreeShowsWeight,
+        };
+        if self.has(shows_weight) {
+            state.shown = None;
+        }
+        if self.has(Fault::RefusalWritesBuffer) && !buffer.is_empty() {
+            buffer[0] = 0;
+        }
+        Outcome { refusal, n: 0 }
     }
 
     // Refusals 1 and 2.
@@ -183,15 +221,21 @@ impl Module {
         let ends = byte == LF && (good || self.has(Fault::FaultyLfTaken));
         if ends && (line.cr || self.has(Fault::LfAloneEndsLine)) {
             line.cr = false;
+            if self.has(Fault::CrHeldAtOnce) {
+                line.bytes.pop();
+            }
             return true;
         }
         if line.cr {
             line.cr = false;
-            if !self.has(Fault::CrLost) {
+            if !self.has(Fault::CrLost) && !self.has(Fault::CrHeldAtOnce) {
                 self.hold(line, CR, true);
             }
         }
         if byte == CR && (good || self.has(Fault::FaultyCrTaken)) {
+            if self.has(Fault::CrHeldAtOnce) {
+                self.hold(line, CR, true);
+            }
             line.cr = !self.has(Fault::CrAloneEndsLine);
             return self.has(Fault::CrAloneEndsLine);
         }
@@ -201,11 +245,21 @@ impl Module {
 
     fn hold(&self, line: &mut Line, byte: u8, good: bool) {
         let fits = line.bytes.len() < self.line_room();
-        if fits {
+        let left_out = match self.fault {
+            Some(Fault::FaultyByteLeftOut) => !good,
+            Some(Fault::NothingHeldAfterFault) => line.faulty,
+            Some(Fault::FaultHidesOver) => line.faulty && !fits,
+            _ => false,
+        };
+        if !left_out && fits {
             line.bytes.push(byte);
-        } else {
+        } else if !left_out {
             line.over = true;
         }
+        if !fits && self.has(Fault::OverEmptiesLine) {
+            line.bytes.clear();
+        }
+        line.over |= (!good && self.has(Fault::FaultSetsOver)) || (byte < 32 && self.has(Fault::ControlSetsOver));
         let forgotten = self.has(Fault::FaultForgotten) || (!fits && self.has(Fault::FaultPastLimitForgotten));
         if !good && !forgotten {
             line.faulty = true;
@@ -215,21 +269,37 @@ impl Module {
     /// The cases at the end of a line, in their order.
     fn end_line(&self, profile: &Profile, state: &mut State) -> Vec<u8> {
         let line = std::mem::take(&mut state.line);
+        match self.fault {
+            Some(Fault::BytesKept) => state.line.bytes = line.bytes.clone(),
+            Some(Fault::OverKept) => state.line.over = line.over,
+            Some(Fault::FaultKept) => state.line.faulty = line.faulty,
+            Some(Fault::CrKept) => state.line.cr = true,
+            _ => {}
+        }
         let (name, rest) = match line.bytes.iter().position(|&byte| byte == b' ') {
             Some(at) => (&line.bytes[..at], Some(&line.bytes[at + 1..])),
             None => (&line.bytes[..], None),
         };
         let known = if self.is_malformed(&line) { None } else { self.command_named(name) };
         if line.faulty && !(self.has(Fault::SyntaxBeforeTransmission) && known.is_none()) {
-            return answer("ET");
+            return self.error(state, "ET");
         }
         if self.has(Fault::WaitingBeforeSyntax) && known.is_none() && state.waiting.is_some() {
             return answer("S I");
         }
         match known {
             Some(name) => self.command(profile, state, name, rest),
-            None => answer("ES"),
+            None => self.error(state, "ES"),
         }
+    }
+
+    /// ET, ES and EL change nothing.
+    fn error(&self, state: &mut State, letters: &str) -> Vec<u8> {
+        if self.has(Fault::ErrorShowsWeight) {
+            state.shown = None;
+        }
+        state.repeating &= !self.has(Fault::ErrorEndsRepetition);
+        answer(letters)
     }
 
     fn is_malformed(&self, line: &Line) -> bool {
@@ -254,7 +324,11 @@ impl Module {
         }
         let takes_parameters = name == "D" || name == "TA";
         if rest.is_some() && !takes_parameters && !self.has(Fault::AnythingAfterName) {
-            return answer("EL");
+            if name == "DW" && self.has(Fault::LogicalDwShowsWeight) {
+                state.shown = None;
+            }
+            state.repeating |= name == "SIR" && state.latest.is_some() && self.has(Fault::LogicalSirStarts);
+            return self.error(state, "EL");
         }
         if name == "@" && !(busy && self.has(Fault::WaitingBeforeReset)) {
             return self.reset(profile, state);
@@ -262,10 +336,13 @@ impl Module {
         let parameters = self.parameters(profile, name, rest);
         let wrong = matches!(parameters, Parameters::Wrong);
         if busy && !(wrong && self.has(Fault::ParametersBeforeWaiting)) {
-            state.repeating &= !(self.has(Fault::RepetitionEndedWhileWaiting) && (name == "S" || name == "SI"));
+            self.busy(state, name, parameters);
             return self.status(name, "I");
         }
         if wrong {
+            if name == "D" && self.has(Fault::WrongTextShowsWeight) {
+                state.shown = None;
+            }
             return self.status(name, "L");
         }
         if state.latest.is_none() && matches!(name, "SI" | "SIR" | "TI" | "ZI") {
@@ -273,6 +350,25 @@ impl Module {
             return self.status(name, "I");
         }
         self.obey(profile, state, name, parameters)
+    }
+
+    /// A name other than @ while a command waits changes nothing; what faults make of it.
+    fn busy(&self, state: &mut State, name: &'static str, parameters: Parameters) {
+        let waits_too = matches!(name, "S" | "T" | "Z");
+        match (self.fault, state.waiting.as_mut()) {
+            (Some(Fault::RepetitionEndedWhileWaiting), _) => state.repeating &= name != "S" && name != "SI",
+            (Some(Fault::BusySirStarts), _) => state.repeating |= name == "SIR" && state.latest.is_some(),
+            (Some(Fault::BusyDwShowsWeight), _) if name == "DW" => state.shown = None,
+            (Some(Fault::BusyTextShown), _) => {
+                if let Parameters::Show(text) = parameters {
+                    state.shown = Some(text);
+                }
+            }
+            (Some(Fault::BusyLineCounted), Some(wait)) => wait.unstable += 1,
+            (Some(Fault::BusyStartsOver), Some(wait)) if waits_too => wait.unstable = 0,
+            (Some(Fault::BusyTakesOver), Some(wait)) if waits_too => wait.name = name,
+            _ => {}
+        }
     }
 
     /// The identification is the name; for SI and SIR it is S.
@@ -330,6 +426,9 @@ impl Module {
     // Order 8: what each command does.
 
     fn obey(&self, profile: &Profile, state: &mut State, name: &'static str, parameters: Parameters) -> Vec<u8> {
+        if self.wrongly_shows_weight(name) {
+            state.shown = None;
+        }
         match name {
             "I0" => self.list(),
             "I1" if self.has(Fault::LevelOneComplete) => answer("I1 A \"01\" \"2.30\" \"2.20\""),
@@ -345,10 +444,38 @@ impl Module {
                 self.status(name, "A")
             }
             "D" | "DW" => {
-                state.shown = if let Parameters::Show(text) = parameters { Some(text) } else { None };
+                self.show(state, parameters);
                 self.status(name, "A")
             }
             _ => self.reset(profile, state),
+        }
+    }
+
+    /// No command but DW and @ brings the weight back.
+    fn wrongly_shows_weight(&self, name: &str) -> bool {
+        match self.fault {
+            Some(Fault::ReadingShowsWeight) => matches!(name, "S" | "SI" | "SIR"),
+            Some(Fault::ZeroingShowsWeight) => matches!(name, "Z" | "ZI"),
+            Some(Fault::TaringShowsWeight) => matches!(name, "T" | "TI"),
+            Some(Fault::TypedTareShowsWeight) => matches!(name, "TA" | "TAC"),
+            Some(Fault::ListShowsWeight) => name.starts_with('I'),
+            _ => false,
+        }
+    }
+
+    /// D shows its text, DW the weight.
+    fn show(&self, state: &mut State, parameters: Parameters) {
+        match (parameters, self.fault) {
+            (Parameters::Show(_), Some(Fault::TextNotShown)) | (Parameters::None, Some(Fault::DwKeepsText)) => {}
+            (Parameters::Show(text), Some(Fault::EmptyTextShowsWeight)) => {
+                state.shown = Some(text).filter(|text| !text.is_empty())
+            }
+            (Parameters::Show(text), Some(Fault::TextCutShort)) => state.shown = Some(text.into_iter().take(19).collect()),
+            (Parameters::Show(text), Some(Fault::HighBytesReplaced)) => {
+                state.shown = Some(text.into_iter().map(|byte| if byte > 127 { b'?' } else { byte }).collect())
+            }
+            (Parameters::Show(text), _) => state.shown = Some(text),
+            _ => state.shown = None,
         }
     }
 
@@ -361,7 +488,11 @@ impl Module {
         if state.latest.is_some_and(|sample| sample.stable || self.has(Fault::UnstableJudged)) {
             return self.judge(profile, state, name);
         }
-        let unstable = u32::from(self.has(Fault::LatestCounted) && state.latest.is_some() && profile.patience > 1);
+        let unstable = match self.fault {
+            Some(Fault::LatestCounted) => u32::from(state.latest.is_some() && profile.patience > 1),
+            Some(Fault::CountNotReset) => state.spent.min(profile.patience - 1),
+            _ => 0,
+        };
         state.waiting = Some(Wait { name, unstable });
         if name == "T" && self.has(Fault::TareStoredAtCommand) && state.latest.is_some() {
             self.tare(profile, state, name);
@@ -462,15 +593,20 @@ impl Module {
     /// Waiting dropped, repetition ended, tare 0, weight shown; zero and latest sample are kept.
     fn reset(&self, profile: &Profile, state: &mut State) -> Vec<u8> {
         if !self.has(Fault::ResetKeepsWaiting) {
-            state.waiting = None;
+            self.end_wait(state);
         }
         state.repeating &= self.has(Fault::ResetKeepsRepetition);
         if !self.has(Fault::ResetKeepsTare) {
             state.tare = 0;
         }
-        state.shown = None;
+        if !self.has(Fault::ResetKeepsText) {
+            state.shown = None;
+        }
         if self.has(Fault::ResetForgetsSample) {
             state.latest = None;
+        }
+        if self.has(Fault::ResetMarksUnstable) {
+            state.latest = state.latest.map(|sample| Sample { stable: false, ..sample });
         }
         if self.has(Fault::ResetClearsZero) {
             state.zero = 0;
@@ -484,17 +620,44 @@ impl Module {
     // Samples.
 
     fn weigh(&self, profile: &Profile, state: &mut State, sample: Sample) -> Vec<u8> {
-        if !(self.has(Fault::FirstSampleKept) && state.latest.is_some()) {
-            state.latest = Some(sample);
+        state.latest = self.latest_after(profile, state, sample);
+        if self.has(Fault::SampleShowsWeight) {
+            state.shown = None;
         }
         let Some(wait) = state.waiting else {
-            return if state.repeating { self.reading(profile, state) } else { vec![] };
+            return if state.repeating { self.repeated(profile, state) } else { vec![] };
         };
         if sample.stable {
-            state.waiting = None;
+            self.end_wait(state);
             return self.judge(profile, state, wait.name);
         }
         self.count_unstable(profile, state, wait)
+    }
+
+    /// The sample that came, save for faults.
+    fn latest_after(&self, profile: &Profile, state: &State, sample: Sample) -> Option<Sample> {
+        let most = state.zero + i64::from(profile.capacity) + 1;
+        match self.fault {
+            Some(Fault::FirstSampleKept) => state.latest.or(Some(sample)),
+            Some(Fault::WaitingKeepsSample) if state.waiting.is_some() && !sample.stable => state.latest,
+            Some(Fault::OverloadCutDown) => Some(Sample { load: i64::from(sample.load).min(most) as i32, ..sample }),
+            _ => Some(sample),
+        }
+    }
+
+    fn repeated(&self, profile: &Profile, state: &mut State) -> Vec<u8> {
+        let text = self.reading(profile, state);
+        if self.has(Fault::OverloadEndsRepetition) {
+            state.repeating = !text.starts_with(b"S +") && !text.starts_with(b"S -");
+        }
+        text
+    }
+
+    fn end_wait(&self, state: &mut State) {
+        if self.has(Fault::CountNotReset) {
+            state.spent = state.waiting.map_or(state.spent, |wait| wait.unstable);
+        }
+        state.waiting = None;
     }
 
     /// The W-th unstable sample ends the wait with I.
@@ -507,7 +670,14 @@ impl Module {
             let repeats = state.repeating && self.has(Fault::RepeatedWhileWaiting);
             return if repeats { self.reading(profile, state) } else { vec![] };
         }
-        state.waiting = None;
+        self.end_wait(state);
+        if self.has(Fault::TimeoutShowsWeight) {
+            state.shown = None;
+        }
+        if self.has(Fault::TimeoutForgetsSample) && !state.repeating {
+            state.latest = None;
+        }
+        state.repeating &= !self.has(Fault::TimeoutEndsRepetition);
         if self.has(Fault::TareKeptAfterTimeout) && wait.name == "T" {
             self.tare(profile, state, wait.name);
         }
@@ -541,10 +711,6 @@ impl Module {
         let status = |name| if name == "TI" { last } else { "B" };
         COMMANDS.iter().flat_map(|(name, level)| answer(&format!("I0 {} {level} \"{name}\"", status(*name)))).collect()
     }
-}
-
-fn refused(refusal: u8) -> Outcome {
-    Outcome { refusal, n: 0 }
 }
 
 fn answer(text: &str) -> Vec<u8> {

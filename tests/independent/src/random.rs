@@ -211,13 +211,18 @@ fn text_line(at: usize, text: &[u8]) -> Vec<u8> {
 
 // Scripts.
 
+/// No history makes more calls than this without a `state` line between them, and each ends with one. Command lines and runs of
+/// bytes that are longer are sent in pieces.
+pub const MOST_UNSEEN: usize = 20;
+
 /// A script that starts anew: profile, texts, room, power-on.
 pub fn script(rng: &mut Rng) -> Script {
-    let mut maker = Maker { replay: Replay::new(Module::default()), lines: vec![], rng };
+    let mut maker = Maker { replay: Replay::new(Module::default()), lines: vec![], unseen: 0, rng };
     maker.start();
     for _ in 0..maker.rng.between(8, 45) {
         maker.step();
     }
+    maker.look();
     maker.lines
 }
 
@@ -225,12 +230,30 @@ struct Maker<'r> {
     rng: &'r mut Rng,
     replay: Replay,
     lines: Script,
+    /// The calls since the last `state`.
+    unseen: usize,
 }
 
 impl Maker<'_> {
+    /// Adds a line, with `state` before it where that is due, and often after it.
     fn add(&mut self, line: Vec<u8>) {
-        self.replay.line(&line, &mut vec![], &mut |_| {});
+        let mut calls = 0;
+        self.replay.line(&line, &mut vec![], &mut |_| calls += 1);
+        assert!(calls <= MOST_UNSEEN, "a script line makes too many calls");
+        if self.unseen + calls > MOST_UNSEEN {
+            self.look();
+        }
         self.lines.push(line);
+        self.unseen += calls;
+        if calls > 0 && self.rng.chance(30) {
+            self.look();
+        }
+    }
+
+    /// `state` changes nothing, so the replay need not run it.
+    fn look(&mut self) {
+        self.lines.push(b"state".to_vec());
+        self.unseen = 0;
     }
 
     fn say(&mut self, text: &str) {
@@ -267,7 +290,8 @@ impl Maker<'_> {
 
     fn step(&mut self) {
         match self.rng.below(100) {
-            0..=32 => self.sample(),
+            0..=30 => self.sample(),
+            31..=32 => self.show(),
             33..=62 => self.command(),
             63..=75 => self.odd_line(),
             76..=82 => self.raw_line(),
@@ -353,9 +377,14 @@ impl Maker<'_> {
         self.send(line);
     }
 
-    /// Sends a line as `> ..`.
+    /// Sends a line as `> ..`, with CR LF at most as many bytes as may go unseen; what stands before them is sent as bytes, and now
+    /// and then more.
     fn send(&mut self, line: Vec<u8>) {
-        self.add([b"> ", &line[..]].concat());
+        let least = line.len().saturating_sub(MOST_UNSEEN - 2);
+        let most = if self.rng.chance(10) { line.len() } else { least };
+        let (front, rest) = line.split_at(self.rng.between(least as i128, most as i128) as usize);
+        self.send_marked(&front.iter().map(|&byte| (byte, true)).collect::<Vec<_>>());
+        self.add([b"> ", rest].concat());
     }
 
     fn command_line(&mut self) -> Vec<u8> {
@@ -521,7 +550,7 @@ impl Maker<'_> {
     }
 
     fn send_marked(&mut self, bytes: &[(u8, bool)]) {
-        for run in bytes.chunk_by(|a, b| a.1 == b.1).flat_map(|run| run.chunks(60)) {
+        for run in bytes.chunk_by(|a, b| a.1 == b.1).flat_map(|run| run.chunks(MOST_UNSEEN)) {
             let mut line = String::from(if run[0].1 { "b" } else { "f" });
             let lower = self.rng.chance(20);
             for (byte, _) in run {
@@ -611,13 +640,19 @@ impl Maker<'_> {
     }
 
     fn odd_script_line(&mut self) {
-        const LINES: [&str; 44] = [
+        const LINES: [&str; 50] = [
             "x",
             "on ",
             " on",
             "On",
             "on\r",
             "off",
+            "state ",
+            " state",
+            "State",
+            "state x",
+            "states",
+            "state\r",
             "s",
             "s ",
             "s 1 ",
@@ -693,6 +728,41 @@ impl Maker<'_> {
                 _ => self.sample(),
             }
         }
+    }
+
+    /// A text is shown, then comes what has to leave it, or what takes it away.
+    fn show(&mut self) {
+        let text = text_of(self.rng, 20);
+        self.send([b"D \"", &text[..], b"\""].concat());
+        for _ in 0..self.rng.between(1, 3) {
+            match self.rng.below(9) {
+                0 | 1 => self.command(),
+                2 => self.raw_line(),
+                3 => {
+                    let line = self.rng.pick(&["> DW ", "> DW 1", "> D", "> D \"", "> DWW", "> dw", "> @ ", "> D \"\""]);
+                    self.say(line);
+                }
+                4 => self.other_profile(),
+                5 => self.short_room(),
+                6 => self.refused_on(),
+                7 => self.wait(),
+                _ => self.sample(),
+            }
+        }
+        self.look();
+        let line = self.rng.pick(&["> DW", "> @", "on"]);
+        self.say(line);
+        self.look();
+    }
+
+    fn refused_on(&mut self) {
+        let former = self.replay.profile.clone();
+        let bad = bad_profile(self.rng, &former);
+        let with_texts = bad.texts != former.texts;
+        self.set_profile(&bad, with_texts);
+        self.say("on");
+        self.look();
+        self.set_profile(&former, with_texts);
     }
 
     /// A tare that does not stand at a display step, then weights around a tie.

@@ -1,12 +1,14 @@
 //! The program replay of issue 6: a script in, the module's answers out.
 
 use crate::faults::Fault;
-use crate::module::{Module, Outcome, Sample, State};
+use crate::module::{Line, Module, Outcome, Sample, State};
 use crate::profile::{Profile, TEXT_ROOMS};
 use crate::tally::Call;
 use crate::weight::{Scale, Unit};
 
 const MOST: u64 = 4_294_967_295;
+/// What a lent buffer holds before a call, in the largest room.
+const LENT: [u8; 1024] = [0xA5; 1024];
 
 /// One call as the tally and the counters see it; no call is a power-on.
 pub struct Event<'a> {
@@ -23,6 +25,7 @@ enum Order {
     Text { at: usize, text: Vec<u8> },
     Room(usize),
     On,
+    State,
     Calls(Vec<Call>),
 }
 
@@ -51,25 +54,23 @@ impl Replay {
             Some(Order::Text { at, text }) => self.profile.texts[at] = text,
             Some(Order::Room(room)) => self.room = room,
             Some(Order::On) => self.on(out, watch),
+            Some(Order::State) => out.extend(self.state.as_ref().map_or(b"?\r\n".to_vec(), state_line)),
             Some(Order::Calls(_)) if self.state.is_none() => out.extend(b"?\r\n"),
             Some(Order::Calls(calls)) => calls.into_iter().for_each(|call| self.call(call, out, watch)),
         }
     }
 
     fn on(&mut self, out: &mut Vec<u8>, watch: &mut dyn FnMut(&Event)) {
-        let mut buffer = vec![0; self.room];
+        let mut buffer = LENT[..self.room].to_vec();
         let mut state = self.state.clone().unwrap_or_default();
         let outcome = self.module.power_on(&self.profile, &mut state, &mut buffer);
-        if outcome.refusal == 0 {
-            self.state = Some(state);
-        } else if self.module.fault == Some(Fault::RefusedOnForgetsState) {
-            self.state = None;
-        }
+        let given_back = self.state.is_some() && self.module.fault != Some(Fault::RefusedOnForgetsState);
+        self.state = (outcome.refusal == 0 || given_back).then_some(state);
         self.tell(None, outcome, &buffer, out, watch);
     }
 
     fn call(&mut self, call: Call, out: &mut Vec<u8>, watch: &mut dyn FnMut(&Event)) {
-        let mut buffer = vec![0; self.room];
+        let mut buffer = LENT[..self.room].to_vec();
         let Some(state) = self.state.as_mut() else { return };
         let outcome = match call {
             Call::Byte { byte, good } => self.module.byte(&self.profile, state, byte, u8::from(!good), &mut buffer),
@@ -85,8 +86,33 @@ impl Replay {
         } else {
             out.extend(format!("refused {}\r\n", outcome.refusal).bytes());
         }
+        if buffer[outcome.n..] != LENT[outcome.n..buffer.len()] {
+            out.extend(b"spilt\r\n");
+        }
         watch(&Event { call, profile: &self.profile, refusal: outcome.refusal, answer });
     }
+}
+
+/// What no answer shows: the state in words, each field once and in this order. A text stands there byte for byte.
+fn state_line(state: &State) -> Vec<u8> {
+    let sample = state.latest.map_or("none".to_string(), |sample| {
+        let mark = if sample.stable { "s" } else { "u" };
+        format!("{mark} {}", sample.load)
+    });
+    let waits = state.waiting.map_or("none".to_string(), |wait| format!("{} {}", wait.name, wait.unstable));
+    let repeats = if state.repeating { "SIR" } else { "no" };
+    let shows = state.shown.as_ref().map_or(b"weight".to_vec(), |text| [b"\"", &text[..], b"\""].concat());
+    let before = format!("state zero {} tare {} sample {sample} waits {waits} repeats {repeats} shows ", state.zero, state.tare);
+    let after = format!(" line {}\r\n", line_words(&state.line));
+    [before.as_bytes(), &shows, after.as_bytes()].concat()
+}
+
+/// The bytes held, and what else is so; a CR that stands apart is not counted.
+fn line_words(line: &Line) -> String {
+    let over = if line.over { " over" } else { "" };
+    let faulty = if line.faulty { " faulty" } else { "" };
+    let cr = if line.cr { " cr" } else { "" };
+    format!("{}{over}{faulty}{cr}", line.bytes.len())
 }
 
 /// A whole script, from its bytes to the output's.
@@ -114,6 +140,9 @@ fn order(line: &[u8]) -> Option<Order> {
     }
     if line == b"on" {
         return Some(Order::On);
+    }
+    if line == b"state" {
+        return Some(Order::State);
     }
     let at = line.iter().position(|&byte| byte == b' ')?;
     let rest = &line[at + 1..];

@@ -9,15 +9,16 @@ use crate::weight::{number_text, ten_to, Scale, Unit, UNITS};
 pub fn scripts() -> Vec<Script> {
     let mut scripts: Vec<Script> = scales().map(widths).collect();
     scripts.extend(UNITS.map(typed_limits));
-    scripts.extend([names(), bytes(), lengths(), faults(), patience(), rooms(), repetition()]);
+    scripts.extend([names(), bytes(), lengths(), faults(), patience(), rooms(), repetition(), display()]);
     scripts
 }
 
-/// A script on profile A, from its lines.
+/// A script on profile A, from its lines, each followed by `state`.
 fn script(lines: impl IntoIterator<Item = String>) -> Script {
     let start =
         ["profile 220000000 1000000 4400000 3 g 4 1", "text 2 ", "text 3 ", "text 4 VA-0001", "text 5 ", "room 256", "on"];
-    start.map(String::from).into_iter().chain(lines).map(String::into_bytes).collect()
+    let seen = lines.into_iter().flat_map(|line| [line, "state".to_string()]);
+    start.map(String::from).into_iter().chain(seen).map(String::into_bytes).collect()
 }
 
 fn text_of(line: Vec<u8>) -> String {
@@ -103,7 +104,8 @@ fn bytes() -> Script {
             format!("b 44 57 {byte:02X} 0D 0A"),
             format!("b 44 20 22 41 {byte:02X} 42 22 0D 0A"),
             format!("b 44 57 {byte:02X} 0A 0D 0A"),
-            format!("b 44 57 0D {byte:02X} 0D 0A"),
+            format!("b 44 57 0D {byte:02X}"),
+            "b 0D 0A".to_string(),
             "> @".to_string(),
         ]
     };
@@ -116,6 +118,10 @@ fn lengths() -> Script {
         let filled = |byte: &str| byte.repeat(n);
         [
             format!("> {}", filled("S")),
+            format!("b{}", filled(" 53")),
+            "b 0D".to_string(),
+            "b 0D".to_string(),
+            "b 0A".to_string(),
             format!("> DW {}", filled(" ")),
             format!("> D \"{}\"", filled("x")),
             format!("> D {}", filled("\"")),
@@ -192,6 +198,31 @@ fn repetition() -> Script {
         })
     });
     script(lines)
+}
+
+/// What each line leaves of what is shown: obeyed, refused for want of room, with more after its name, faulty, with T waiting, and
+/// without a sample.
+fn display() -> Script {
+    let names = COMMANDS.iter().map(|(name, _)| *name);
+    let others = ["D \"\"", "D \"ABC\"", "D \"123456789012345678901\"", "D \"", "TA 1 g", "TA 1 kg", "Q", ""];
+    let displays = ["DW", "D \"\"", "D \"TEXT 1\""];
+    script(names.chain(others).flat_map(|line| displays.into_iter().flat_map(move |display| shown_then(display, line))))
+}
+
+fn shown_then(display: &str, line: &str) -> Vec<String> {
+    let (display, sent) = (format!("> {display}"), format!("> {line}"));
+    let longer = format!("> {line} 1");
+    let ways: [&[&str]; 8] = [
+        &["s 100", &display, &sent],
+        &["s 100", &display, "room 0", &sent, "room 256", "b 0A"],
+        &["s 100", &display, &longer],
+        &["s 100", &display, "f 53", &sent],
+        &["u 100", &display, "> T", &sent, "u 200", "u 300", "u 400", "s 500"],
+        &["u 100", &display, "> SIR", &sent, "u 200", "s 300000000"],
+        &["s 300000000", &display, &sent, "s -300000000", &sent],
+        &[&display, &sent, "u 100", "u 200", "u 300"],
+    ];
+    ways.into_iter().flat_map(|way| ["on"].iter().chain(way)).map(|line| line.to_string()).collect()
 }
 
 // Captures.

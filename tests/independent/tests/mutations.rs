@@ -4,14 +4,15 @@ use independent::compare::{capture_bytes, difference, script_bytes, shown, Judge
 use independent::decode::{decode, decode_with};
 use independent::faults::{Fault, OF_THE_MODULE, OF_THE_READER};
 use independent::module::Module;
-use independent::random::{capture, script, Rng};
+use independent::random::{capture, script, Rng, MOST_UNSEEN};
 use independent::reader::Reader;
-use independent::replay::{replay, replay_with};
+use independent::replay::{replay, replay_with, Replay};
 
 const SEED: u64 = 1;
 const SCRIPTS: usize = 400;
 /// The tally sees a unit that is a little short only beside a tie, so it gets more.
 const JUDGED_SCRIPTS: usize = 1_600;
+const SILENT_SCRIPTS: usize = 100;
 const CAPTURES: usize = 200;
 
 /// Faults that break demand 3, so that the tally alone has to notice them.
@@ -35,23 +36,91 @@ const JUDGED: &[Fault] = &[
     Fault::QueryClearsTare,
 ];
 
+/// Faults that no answer shows, so that `state` alone has to.
+const SILENT: &[Fault] = &[
+    Fault::DwKeepsText,
+    Fault::ResetKeepsText,
+    Fault::PowerOnKeepsText,
+    Fault::TextNotShown,
+    Fault::EmptyTextShowsWeight,
+    Fault::TextCutShort,
+    Fault::HighBytesReplaced,
+    Fault::WrongTextShowsWeight,
+    Fault::BusyTextShown,
+    Fault::BusyDwShowsWeight,
+    Fault::LogicalDwShowsWeight,
+    Fault::ErrorShowsWeight,
+    Fault::SampleShowsWeight,
+    Fault::TimeoutShowsWeight,
+    Fault::ReadingShowsWeight,
+    Fault::ZeroingShowsWeight,
+    Fault::TaringShowsWeight,
+    Fault::TypedTareShowsWeight,
+    Fault::ListShowsWeight,
+    Fault::RefusalOneShowsWeight,
+    Fault::RefusalTwoShowsWeight,
+    Fault::RefusalThreeShowsWeight,
+    Fault::RefusedOnShowsWeight,
+    Fault::OverEmptiesLine,
+    Fault::FaultyByteLeftOut,
+    Fault::NothingHeldAfterFault,
+    Fault::FaultSetsOver,
+    Fault::FaultHidesOver,
+    Fault::ControlSetsOver,
+];
+
 fn scripts(count: usize) -> Vec<Script> {
     let mut rng = Rng::new(SEED);
     (0..count).map(|_| script(&mut rng)).collect()
 }
 
+/// The input of the answers alone.
+fn without_state(script: &[Vec<u8>]) -> Vec<u8> {
+    let lines: Script = script.iter().filter(|line| *line != b"state").cloned().collect();
+    script_bytes(&lines)
+}
+
 #[test]
 fn every_fault_of_the_module_is_noticed() {
-    let scripts = scripts(SCRIPTS);
+    let inputs: Vec<Vec<u8>> = scripts(SCRIPTS).iter().map(|one| script_bytes(one)).collect();
+    let told: Vec<Vec<u8>> = inputs.iter().map(|input| replay(input)).collect();
     let mut unnoticed = vec![];
     for &fault in OF_THE_MODULE {
         let faulty = |input: &[u8]| replay_with(Module { fault: Some(fault) }, input, &mut |_| {});
-        match scripts.iter().position(|one| faulty(&script_bytes(one)) != replay(&script_bytes(one))) {
+        match inputs.iter().zip(&told).position(|(input, told)| faulty(input) != *told) {
             Some(at) => println!("{fault:?}: noticed by script {at}"),
             None => unnoticed.push(fault),
         }
     }
     assert!(unnoticed.is_empty(), "not noticed: {unnoticed:?}");
+}
+
+#[test]
+fn no_answer_shows_the_silent_faults() {
+    for one in scripts(SILENT_SCRIPTS) {
+        let input = without_state(&one);
+        let told = replay(&input);
+        for &fault in SILENT {
+            let faulty = replay_with(Module { fault: Some(fault) }, &input, &mut |_| {});
+            assert!(faulty == told, "{fault:?} is shown by an answer to\n{}", shown(&input));
+        }
+    }
+}
+
+/// `state` stands often enough in the histories.
+#[test]
+fn few_calls_go_unseen() {
+    for one in scripts(SCRIPTS) {
+        let (mut replay, mut unseen) = (Replay::new(Module::default()), 0);
+        for line in &one {
+            replay.line(line, &mut vec![], &mut |_| unseen += 1);
+            assert!(unseen <= MOST_UNSEEN, "{}", shown(&script_bytes(&one)));
+            if line == b"state" {
+                unseen = 0;
+            }
+        }
+        assert_eq!(unseen, 0, "`state` ends the history");
+    }
 }
 
 #[test]
@@ -72,8 +141,14 @@ fn every_fault_of_the_reader_is_noticed() {
 /// No line and no byte of the script shown can be left out.
 #[test]
 fn a_difference_is_shown_by_a_short_script() {
-    for fault in [Fault::ResetKeepsRepetition, Fault::FaultPastLimitForgotten, Fault::TareKeptAfterTimeout, Fault::CountUnjudged]
-    {
+    for fault in [
+        Fault::ResetKeepsRepetition,
+        Fault::FaultPastLimitForgotten,
+        Fault::TareKeptAfterTimeout,
+        Fault::CountUnjudged,
+        Fault::ResetKeepsText,
+        Fault::OverEmptiesLine,
+    ] {
         let faulty = |input: &[u8]| replay_with(Module { fault: Some(fault) }, input, &mut |_| {});
         let shortest = difference(&scripts(SCRIPTS), script_bytes, &faulty, &replay).expect("a difference");
         println!("{fault:?}\n{}", shown(&script_bytes(&shortest)));
@@ -91,14 +166,16 @@ fn a_difference_is_shown_by_a_short_script() {
 
 #[test]
 fn the_tally_notices_wrong_weights() {
-    let input = script_bytes(&scripts(JUDGED_SCRIPTS).concat());
-    let judged = |fault| {
+    let inputs: Vec<Vec<u8>> = scripts(JUDGED_SCRIPTS).iter().map(|one| without_state(one)).collect();
+    let judged = |fault, input: &[u8]| {
         let mut judge = Judge::default();
-        replay_with(Module { fault }, &input, &mut |event| judge.see(event));
+        replay_with(Module { fault }, input, &mut |event| judge.see(event));
         judge.faults
     };
-    assert_eq!(judged(None), Vec::<String>::new());
+    for input in &inputs {
+        assert_eq!(judged(None, input), Vec::<String>::new());
+    }
     for &fault in JUDGED {
-        assert!(!judged(Some(fault)).is_empty(), "{fault:?}");
+        assert!(inputs.iter().any(|input| !judged(Some(fault), input).is_empty()), "{fault:?}");
     }
 }

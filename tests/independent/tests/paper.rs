@@ -57,6 +57,71 @@ fn texts_of_a_script() {
     assert_eq!(told, b"I4 A \"\"\r\n?\r\nI5 A \"\x80\xff\"\r\nrefused 1\r\nrefused 1\r\n");
 }
 
+// The line `state`.
+
+/// What `state` prints after a script that power-on starts, without CR LF.
+fn state_after(lines: &[&str]) -> String {
+    let script = [&["on"], lines, &["state"]].concat().join("\n");
+    let told = replay(script.as_bytes());
+    let text = told.strip_suffix(b"\r\n").expect("CR LF").escape_ascii().to_string().replace("\\\"", "\"");
+    text.rsplit("\\r\\n").next().expect("a line").to_string()
+}
+
+#[test]
+fn the_state_after_power_on() {
+    let told = replay(b"on\nstate\nstate");
+    let line = "state zero 0 tare 0 sample none waits none repeats no shows weight line 0\r\n";
+    assert_eq!(shown(&told), shown(format!("I4 A \"VA-0001\"\r\n{line}{line}").as_bytes()));
+}
+
+#[test]
+fn the_state_is_no_call_and_one_word() {
+    assert_eq!(replay(b"state\nroom 15\non\nstate\n"), b"?\r\nrefused 3\r\n?\r\n");
+    let odd = b"on\nstate \n state\nState\nstate x\nstates\nstat\nstate\r\nSTATE\nstate 1\n";
+    assert_eq!(replay(odd), [&b"I4 A \"VA-0001\"\r\n"[..], &b"?\r\n".repeat(9)].concat());
+    let told = replay(b"on\nb 53\nprofile 0 0 0 0 g 0 0\nroom 0\nstate\n");
+    assert!(told.ends_with(b"\"\r\nstate zero 0 tare 0 sample none waits none repeats no shows weight line 1\r\n"));
+}
+
+/// Each word of each field once.
+#[test]
+fn the_words_of_the_state() {
+    let full = &format!("b{}", " 53".repeat(64))[..];
+    let cases: &[(&[&str], &str)] = &[
+        (&["s 4400000", "> Z"], "zero 4400000 tare 0 sample s 4400000 waits none repeats no shows weight line 0"),
+        (&["u -70", "> ZI"], "zero -70 tare 0 sample u -70 waits none repeats no shows weight line 0"),
+        (&["s 49", "> T"], "zero 0 tare 49 sample s 49 waits none repeats no shows weight line 0"),
+        (&["> TA 220 g"], "zero 0 tare 220000000 sample none waits none repeats no shows weight line 0"),
+        (&["s 2147483647"], "zero 0 tare 0 sample s 2147483647 waits none repeats no shows weight line 0"),
+        (&["u -2147483648"], "zero 0 tare 0 sample u -2147483648 waits none repeats no shows weight line 0"),
+        (&["> S"], "zero 0 tare 0 sample none waits S 0 repeats no shows weight line 0"),
+        (&["u 5", "> T", "u 6"], "zero 0 tare 0 sample u 6 waits T 1 repeats no shows weight line 0"),
+        (&["> Z", "u 5", "u -6"], "zero 0 tare 0 sample u -6 waits Z 2 repeats no shows weight line 0"),
+        (&["> Z", "u 5", "u 6", "u 7"], "zero 0 tare 0 sample u 7 waits none repeats no shows weight line 0"),
+        (&["u 5", "> SIR", "> T"], "zero 0 tare 0 sample u 5 waits T 0 repeats SIR shows weight line 0"),
+        (&["> D \"HALLO 1\""], "zero 0 tare 0 sample none waits none repeats no shows \"HALLO 1\" line 0"),
+        (&["> D \"\""], "zero 0 tare 0 sample none waits none repeats no shows \"\" line 0"),
+        (&["b 44 20 22 80 FF 20 22 0D 0A"], "zero 0 tare 0 sample none waits none repeats no shows \"\\x80\\xff \" line 0"),
+        (&["b 44 57"], "zero 0 tare 0 sample none waits none repeats no shows weight line 2"),
+        (&["b 44 0D"], "zero 0 tare 0 sample none waits none repeats no shows weight line 1 cr"),
+        (&["b 44 0D 0D"], "zero 0 tare 0 sample none waits none repeats no shows weight line 2 cr"),
+        (&["b 44 0D 57"], "zero 0 tare 0 sample none waits none repeats no shows weight line 3"),
+        (&["b 44 0D", "f 0A"], "zero 0 tare 0 sample none waits none repeats no shows weight line 3 faulty"),
+        (&["b 44", "f 0D"], "zero 0 tare 0 sample none waits none repeats no shows weight line 2 faulty"),
+        (&["f 44", "b 0D"], "zero 0 tare 0 sample none waits none repeats no shows weight line 1 faulty cr"),
+        (&[full], "zero 0 tare 0 sample none waits none repeats no shows weight line 64"),
+        (&[full, "b 0D"], "zero 0 tare 0 sample none waits none repeats no shows weight line 64 cr"),
+        (&[full, "b 53"], "zero 0 tare 0 sample none waits none repeats no shows weight line 64 over"),
+        (&[full, "b 0D 0D"], "zero 0 tare 0 sample none waits none repeats no shows weight line 64 over cr"),
+        (&[full, "f 53"], "zero 0 tare 0 sample none waits none repeats no shows weight line 64 over faulty"),
+        (&[full, "b 53", "f 53", "b 0D"], "zero 0 tare 0 sample none waits none repeats no shows weight line 64 over faulty cr"),
+        (&[full, "b 53", "f 53", "b 0D 0A"], "zero 0 tare 0 sample none waits none repeats no shows weight line 0"),
+    ];
+    for (lines, words) in cases {
+        assert_eq!(state_after(lines), format!("state {words}"), "{lines:?}");
+    }
+}
+
 // Constructed states.
 
 /// The refusal of a byte and of a sample call, which have to leave state and buffer.

@@ -4,11 +4,13 @@ use crate::session::Call;
 use crate::session::Session;
 use crate::session::make;
 use crate::session::unknown;
+use crate::words::first;
 use script::Numbers;
 use script::Order;
 use script::order_of;
 use script::sent_byte;
 use script::with_numbers;
+use told::put_state;
 
 fn set_numbers(session: Session, numbers: Numbers) -> Session {
     let given = session.profile;
@@ -49,11 +51,21 @@ fn call_bytes(
     latest
 }
 
+// It calls nothing.
+fn tell_state(session: Session) -> Session {
+    let state = session.state;
+    let mut line = [0u8; 256];
+    let count = put_state(state, &mut line);
+    io::write_all(1, first(&line, count));
+    session
+}
+
 pub fn perform(session: Session, line: &[u8], out: &mut [u8]) -> Session {
     let order = order_of(session.on, line);
     match order {
         Order::Nothing => session,
         Order::On => make(session, Call::On, out),
+        Order::State => tell_state(session),
         Order::Numbers(numbers) => set_numbers(session, numbers),
         Order::Text => set_text(session, line),
         Order::Room(room) => set_room(session, room),

@@ -4,6 +4,8 @@ use device::Called;
 use device::power_on;
 use device::take_byte;
 use device::take_sample;
+use lent::fill;
+use lent::is_spilt;
 use model::Load;
 use model::Profile;
 use model::Refusal;
@@ -15,6 +17,8 @@ pub struct Session {
     pub profile: Profile,
     // The length of the buffer that is lent.
     pub room: usize,
+    // How many calls there were, modulo 256: the seed of what the buffer is filled with.
+    pub calls: u8,
     // A power-on was granted.
     pub on: bool,
     pub state: State,
@@ -36,6 +40,7 @@ pub fn start() -> Session {
     Session {
         profile: profile_a(),
         room: 256,
+        calls: 0,
         on: false,
         state: start_state(),
         held: 0,
@@ -75,14 +80,28 @@ fn is_granted(refusal: Refusal) -> bool {
     }
 }
 
+// A byte past the answer, or any byte on a refusal, is not as before.
+fn write_spilt(granted: bool, count: usize, out: &[u8], seed: u8) {
+    let mut from = 0;
+    if granted {
+        from = count;
+    }
+    if is_spilt(out, seed, from) {
+        io::write_all(1, b"spilt\r\n");
+    }
+}
+
 // What the call returned is printed, and its state is the next call's.
 fn after_call(session: Session, called: Called, out: &[u8]) -> Session {
     let refusal = called.refusal;
     let state = called.state;
+    let granted = is_granted(refusal);
     let mut next = session;
     next.state = state;
-    next.on = session.on | is_granted(refusal);
+    next.on = session.on | granted;
+    next.calls = std::num::wrapping_add_u8(session.calls, 1);
     write_outcome(refusal, called.count, out);
+    write_spilt(granted, called.count, out, session.calls);
     next
 }
 
@@ -96,7 +115,7 @@ fn called(profile: Profile, state: State, call: Call, lent: &mut [u8]) -> Called
     power_on(profile, state, lent)
 }
 
-// One call, with a buffer of the length that the script says.
+// One call, with a buffer of the length that the script says, filled anew for it.
 pub fn make(session: Session, call: Call, out: &mut [u8]) -> Session {
     let start = 0;
     let room = session.room;
@@ -105,6 +124,7 @@ pub fn make(session: Session, call: Call, out: &mut [u8]) -> Session {
     }
     let profile = session.profile;
     let state = session.state;
+    fill(out, session.calls);
     let returned = called(profile, state, call, &mut out[start..room]);
     after_call(session, returned, out)
 }

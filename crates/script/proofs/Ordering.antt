@@ -143,9 +143,13 @@ module _ (on : Bool) (l : List ℕ) {b : ℕ} (first : b ≡ getD l 0 0) where
     pub power-line : p ≡ true → orders.On ≡ orderOf on l
     power-line e = rw (← first, not-passed, ← power, e)
 
-    module _ (no-power : p ≡ false) {i : ℕ} (at : FirstAt space l i) where
-      pub worded-line : {r : Order} → i < length l → r ≡ namedOrder on l → r ≡ orderOf on l
-      worded-line h order = order ∙ (rw (← first, not-passed, ← power, no-power, ← (at .has), lt-ltb i (length l) h))
+    module _ (no-power : p ≡ false) {q : Bool} (state : q ≡ sameText l (ascii "state")) where
+      pub state-line : on && q ≡ true → orders.State ≡ orderOf on l
+      state-line e = rw (← first, not-passed, ← power, no-power, ← state, e)
 
-      pub one-word : length l ≤ i → orders.Unknown ≡ orderOf on l
-      one-word h = rw (← first, not-passed, ← power, no-power, ← (at .has), le-ltb i (length l) h)
+      module _ (no-state : on && q ≡ false) {i : ℕ} (at : FirstAt space l i) where
+        pub worded-line : {r : Order} → i < length l → r ≡ namedOrder on l → r ≡ orderOf on l
+        worded-line h order = order ∙ (rw (← first, not-passed, ← power, no-power, ← state, no-state, ← (at .has), lt-ltb i (length l) h))
+
+        pub one-word : length l ≤ i → orders.Unknown ≡ orderOf on l
+        one-word h = rw (← first, not-passed, ← power, no-power, ← state, no-state, ← (at .has), le-ltb i (length l) h)

@@ -11,7 +11,7 @@ use Rattle.text.specs.Searching.{hasByte}
 use Rattle.script.specs.declared.number.LoadRead.{LoadRead}
 use Rattle.script.specs.declared.number.LoadRead.the-variants.{Within, Beyond}
 use Rattle.script.specs.declared.order.Order.{Order}
-use Rattle.script.specs.declared.order.Order.the-variants.{Nothing, On, Numbers, Text, Room, Bytes, Sample, Unknown}
+use Rattle.script.specs.declared.order.Order.the-variants.{Nothing, On, State, Numbers, Text, Room, Bytes, Sample, Unknown}
 use Rattle.script.specs.declared.profile.Numbers as fields
 use Rattle.script.specs.Hex.{areHex, hexByte}
 use Rattle.script.specs.Numbers.{numberOf, loadOf}
@@ -70,7 +70,8 @@ abbrev pub orderOf : Bool → List ℕ → Order
 orderOf on l =
     cond (isPassedOver l) Nothing
     (cond (sameText l (ascii "on")) On
-    (cond (hasByte space l) (namedOrder on l) Unknown))
+    (cond (on && sameText l (ascii "state")) State
+    (cond (hasByte space l) (namedOrder on l) Unknown)))
 
 -- ---- the bytes that a line of b, f or > sends
 

@@ -24,6 +24,8 @@ pub enum Order {
     // An empty line or a comment.
     Nothing,
     On,
+    // What the module holds that no answer shows. It calls nothing.
+    State,
     // Other numbers in the profile.
     Numbers(Numbers),
     // Another text in the profile.
@@ -122,7 +124,7 @@ fn named_order(on: bool, line: &[u8]) -> Order
     Order::Unknown
 }
 
-// `on` says whether a power-on was granted: a line that calls the module before that is unknown.
+// `on` says whether a power-on was granted: a line that calls the module or asks for its state before that is unknown.
 pub fn order_of(on: bool, line: &[u8]) -> Order
     ensures { λ r. ⌜ r ≡ orderOf on (now (line .entry)) ⌝ }
 {
@@ -131,6 +133,9 @@ pub fn order_of(on: bool, line: &[u8]) -> Order
     }
     if same_text(line, b"on") {
         return Order::On;
+    }
+    if on & same_text(line, b"state") {
+        return Order::State;
     }
     if first_at(line, b' ') < line.len() {
         return named_order(on, line);

@@ -1,7 +1,8 @@
-// Constructed states that no script of calls can reach, one for each case of refusal 2 at its limit and past it, and the order of
-// the refusals. Each line says what was built and the refusal number of the call; `kept` says that a refusal left the buffer as it
-// was and counted nothing.
+// Constructed states that no script of calls can reach, one for each case of refusal 2 at its limit and past it, the order of the
+// refusals, and samples with too little room. Each line says what was built and the refusal number of the call. `kept` says that the
+// whole buffer is as before and nothing is counted, `rest kept` that every byte past the answer is as before, `spilt` that one is not.
 mod build;
+mod call;
 
 use build::displayed;
 use build::held;
@@ -9,51 +10,12 @@ use build::repeated;
 use build::tared;
 use build::waited;
 use build::zeroed;
-use device::Called;
-use device::power_on;
-use device::take_byte;
-use device::take_sample;
-use model::Load;
+use call::try_room;
+use call::try_sample;
+use call::try_state;
 use model::Pending;
-use model::Profile;
-use model::Refusal;
-use model::State;
 use model::start_state;
 use profiles::profile_a;
-
-fn number_of(refusal: Refusal) -> u8 {
-    match refusal {
-        Refusal::None => b'0',
-        Refusal::Profile => b'1',
-        Refusal::State => b'2',
-        Refusal::Room => b'3',
-    }
-}
-
-fn say(label: &[u8], called: Called, first: u8) {
-    io::write_all(1, label);
-    let refusal = called.refusal;
-    let number = [number_of(refusal)];
-    io::write_all(1, &number);
-    if (called.count == 0) & (first == 7) {
-        io::write_all(1, b" kept");
-    }
-    io::write_all(1, b"\n");
-}
-
-// A byte that ends no line, with a state.
-fn try_state(label: &[u8], state: State) {
-    let mut out = [7u8; 256];
-    let called = take_byte(profile_a(), state, b'S', false, &mut out);
-    say(label, called, out[0]);
-}
-
-// The same for a sample.
-fn try_sample(label: &[u8], state: State) {
-    let mut out = [7u8; 256];
-    let called = take_sample(profile_a(), state, Load(0), true, &mut out);
-    say(label, called, out[0]);
-}
 
 fn weighings() {
     try_state(b"zero 4400000: ", zeroed(4_400_000));
@@ -63,7 +25,7 @@ fn weighings() {
     try_state(b"tare 220000000: ", tared(220_000_000));
     try_state(b"tare 220000001: ", tared(220_000_001));
     try_state(b"tare 4294967295: ", tared(4_294_967_295));
-    try_sample(b"tare 4294967295, a sample: ", tared(4_294_967_295));
+    try_sample(b"tare 4294967295, a sample: ", tared(4_294_967_295), 256);
 }
 
 fn lines() {
@@ -89,14 +51,30 @@ fn waits() {
     try_state(b"repeating, no sample: ", repeated(false));
 }
 
-// First that applies: profile, state, room.
-fn try_room(label: &[u8], profile: Profile, state: State, room: usize) {
-    let mut out = [7u8; 256];
-    let start = 0;
-    if room <= 256 {
-        let called = power_on(profile, state, &mut out[start..room]);
-        say(label, called, out[0]);
-    }
+fn samples() {
+    try_sample(b"none waiting, a sample, no room: ", start_state(), 0);
+    try_sample(
+        b"S waiting, a sample, room 17: ",
+        waited(Pending::Weigh, 2),
+        17,
+    );
+    try_sample(
+        b"S waiting, a sample, room 18: ",
+        waited(Pending::Weigh, 2),
+        18,
+    );
+    try_sample(
+        b"S waiting, a sample, room 256: ",
+        waited(Pending::Weigh, 2),
+        256,
+    );
+    try_sample(
+        b"S waiting, 3 counted, a sample, no room: ",
+        waited(Pending::Weigh, 3),
+        0,
+    );
+    try_sample(b"repeating, a second sample, room 17: ", repeated(true), 17);
+    try_sample(b"repeating, a second sample, room 18: ", repeated(true), 18);
 }
 
 fn orders() {
@@ -123,5 +101,6 @@ fn main() {
     lines();
     displays();
     waits();
+    samples();
     orders();
 }

@@ -1,7 +1,7 @@
 -- `script::order::order_of` meets its contract.
 -- Assumes nothing.
 use borrow.Author.Needs.{needs}
-use Rattle.script.proofs.Ordering.{one-word, passed-over, power-line, worded-line}
+use Rattle.script.proofs.Ordering.{one-word, passed-over, power-line, state-line, worded-line}
 use Rattle.script.proofs.order.order_of.Statement.{statement}
 use Rattle.script.proofs.order.order_of.Tie as tie
 
@@ -20,17 +20,26 @@ same-text-requires c κs = search needs
 returns-2 : tie.Need-returns-2
 returns-2 c = search (needs, power-line)
 
+slice-aggregate-same-text-2 : tie.Need-slice-aggregate-same-text-2
+slice-aggregate-same-text-2 c = search needs
+
+same-text-requires-2 : tie.Need-same-text-requires-2
+same-text-requires-2 c κs = search needs
+
+returns-3 : tie.Need-returns-3
+returns-3 c = search (needs, state-line)
+
 first-at-requires : tie.Need-first-at-requires
 first-at-requires c κs = search needs
 
 named-order-requires : tie.Need-named-order-requires
 named-order-requires c κs = search needs
 
-returns-3 : tie.Need-returns-3
-returns-3 c = search (needs, worded-line)
-
 returns-4 : tie.Need-returns-4
-returns-4 c = search (needs, one-word)
+returns-4 c = search (needs, worded-line)
+
+returns-5 : tie.Need-returns-5
+returns-5 c = search (needs, one-word)
 
 pub order-of-spec : {M : Type 1} → statement M
 order-of-spec =
@@ -41,7 +50,10 @@ order-of-spec =
     slice-aggregate-same-text
     same-text-requires
     returns-2
+    slice-aggregate-same-text-2
+    same-text-requires-2
+    returns-3
     first-at-requires
     named-order-requires
-    returns-3
-    returns-4)
+    returns-4
+    returns-5)

@@ -1,0 +1,106 @@
+// The line that `state` prints: what the module holds and no answer shows. One function a word of it.
+use crate::words::put;
+use crate::words::put_load;
+use crate::words::put_number;
+use line::Line;
+use model::Display;
+use model::Load;
+use model::Pending;
+use model::State;
+use model::Waiting;
+use model::Weighing;
+use text::part;
+use weight::Tare;
+
+fn put_zero(line: &mut [u8], at: usize, zero: Load) -> usize {
+    let next = put(line, at, b" zero ");
+    put_load(line, next, zero)
+}
+
+fn put_tare(line: &mut [u8], at: usize, tare: Tare) -> usize {
+    let next = put(line, at, b" tare ");
+    put_number(line, next, tare.0 as u64)
+}
+
+// `s` or `u` and the load, as in the script.
+fn put_sample(line: &mut [u8], at: usize, weighing: Weighing) -> usize {
+    let load = weighing.load;
+    if !weighing.sampled {
+        return put(line, at, b" sample none");
+    }
+    if weighing.stable {
+        let next = put(line, at, b" sample s ");
+        return put_load(line, next, load);
+    }
+    let next = put(line, at, b" sample u ");
+    put_load(line, next, load)
+}
+
+fn put_waiting(line: &mut [u8], at: usize, waiting: Waiting) -> usize {
+    let pending = waiting.pending;
+    let unstable = waiting.unstable as u64;
+    let next = put(line, at, b" waits ");
+    match pending {
+        Pending::Nothing => put(line, next, b"none"),
+        Pending::Weigh => put_waiting_for(line, next, b"S ", unstable),
+        Pending::Zero => put_waiting_for(line, next, b"Z ", unstable),
+        Pending::Tare => put_waiting_for(line, next, b"T ", unstable),
+    }
+}
+
+fn put_waiting_for(line: &mut [u8], at: usize, command: &[u8], unstable: u64) -> usize {
+    let next = put(line, at, command);
+    put_number(line, next, unstable)
+}
+
+fn put_repeating(line: &mut [u8], at: usize, repeating: bool) -> usize {
+    if repeating {
+        return put(line, at, b" repeats SIR");
+    }
+    put(line, at, b" repeats no")
+}
+
+fn put_display(line: &mut [u8], at: usize, display: Display) -> usize {
+    if !display.shown {
+        return put(line, at, b" shows weight");
+    }
+    let bytes = display.text.bytes;
+    let text = put(line, at, b" shows \"");
+    let quote = put(line, text, part(&bytes, 0, display.text.len as usize));
+    put(line, quote, b"\"")
+}
+
+fn put_if(line: &mut [u8], at: usize, holds: bool, word: &[u8]) -> usize {
+    if holds {
+        return put(line, at, word);
+    }
+    at
+}
+
+// A CR that is kept apart is not counted.
+fn put_line(line: &mut [u8], at: usize, received: Line) -> usize {
+    let count = put(line, at, b" line ");
+    let over = put_number(line, count, received.len as u64);
+    let faulty = put_if(line, over, received.over, b" over");
+    let returned = put_if(line, faulty, received.faulty, b" faulty");
+    put_if(line, returned, received.returned, b" cr")
+}
+
+// The line of a state, as far as there are places: the longest has 145 bytes. Answers how many it has.
+pub fn put_state(state: State, line: &mut [u8]) -> usize {
+    let weighing = state.weighing;
+    let zero = weighing.zero;
+    let tare = weighing.tare;
+    let waiting = state.waiting;
+    let display = state.display;
+    let received = state.line;
+    let mut at = put(line, 0, b"state");
+    at = put_zero(line, at, zero);
+    at = put_tare(line, at, tare);
+    at = put_sample(line, at, weighing);
+    at = put_waiting(line, at, waiting);
+    at = put_repeating(line, at, state.repeating);
+    at = put_display(line, at, display);
+    at = put_line(line, at, received);
+    put(line, at, b"\r\n")
+}

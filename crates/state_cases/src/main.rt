@@ -13,13 +13,13 @@ use device::Called;
 use device::power_on;
 use device::take_byte;
 use device::take_sample;
-use model::Load;
 use model::Pending;
 use model::Profile;
 use model::Refusal;
 use model::State;
 use model::start_state;
 use profiles::profile_a;
+use weight::Load;
 
 fn number_of(refusal: Refusal) -> u8 {
     match refusal {

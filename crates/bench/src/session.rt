@@ -8,11 +8,11 @@ use crate::entry::load_of;
 use device::power_on;
 use device::take_byte;
 use device::take_sample;
-use model::Load;
 use model::State;
 use model::start_state;
 use profiles::profile_a;
 use script::LoadRead;
+use weight::Load;
 
 pub struct Session {
     pub state: State,

@@ -35,6 +35,7 @@ use waiting::with_weighing;
 use weighing::plain;
 use weighing::tare_answer;
 use weighing::with_tare;
+use weight::NO_TARE;
 use weight::Tare;
 
 // The name's place; for SI and SIR that of S.
@@ -64,7 +65,7 @@ fn reset_state(state: State) -> State
     let display = state.display;
     State {
         line,
-        weighing: with_tare(weighing, Tare(0)),
+        weighing: with_tare(weighing, NO_TARE),
         waiting: not_waiting(),
         repeating: false,
         display: weight_shown(display),

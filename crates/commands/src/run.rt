@@ -33,7 +33,7 @@ use weighing::tared;
 use weighing::weighed;
 use weighing::with_tare;
 use weighing::zeroed;
-use weight::Tare;
+use weight::NO_TARE;
 
 fn information(command: u8) -> Answer
     ensures { λ r. ⌜ r ≡ cond (eqb command 0) Answer.CommandList (cond (eqb command 1) Answer.Versions (Answer.Text command)) ⌝ }
@@ -108,7 +108,7 @@ fn run_taring(profile: Profile, state: State, command: u8) -> Reaction
         return measured_reaction(state, tared(profile, weighing, TI));
     }
     if command == TAC {
-        let cleared = with_tare(weighing, Tare(0));
+        let cleared = with_tare(weighing, NO_TARE);
         return answered(with_weighing(state, cleared), plain(TAC, Status::A));
     }
     let tare = weighing.tare;

@@ -22,7 +22,7 @@ use Rattle.commands.specs.Reactions.{byteReaction}
 use Rattle.waiting.specs.Waits.{sampleReaction}
 use Rattle.model.specs.declared.profile.Profile.{Profile}
 use Rattle.model.specs.declared.state.State.{State}
-use Rattle.model.specs.declared.weighing.Load.{Load}
+use Rattle.weight.specs.declared.loads.Load.{Load}
 use Rattle.model.specs.Profiles.{profileAllowed}
 use Rattle.model.specs.States.{stateAllowed}
 

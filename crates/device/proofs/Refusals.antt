@@ -36,7 +36,7 @@ use Rattle.line.specs.Receiving.{receivedByte}
 use Rattle.model.specs.declared.profile.Profile.{Profile}
 use Rattle.model.specs.declared.refusal.Refusal.the-variants as refusals
 use Rattle.model.specs.declared.state.State.{State}
-use Rattle.model.specs.declared.weighing.Load.{Load}
+use Rattle.weight.specs.declared.loads.Load.{Load}
 use Rattle.model.specs.Profiles.{profileAllowed}
 use Rattle.model.specs.States.{stateAllowed, startState}
 

@@ -9,7 +9,6 @@ use crate::buffer::emit_due;
 use answer::Answer;
 use commands::line_reaction;
 use line::receive_byte;
-use model::Load;
 use model::Profile;
 use model::Refusal;
 use model::State;
@@ -22,6 +21,7 @@ use waiting::is_awaited;
 use waiting::sample_reaction;
 use waiting::sampled;
 use waiting::with_line;
+use weight::Load;
 
 pub struct Called {
     pub refusal: Refusal,

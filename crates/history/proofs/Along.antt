@@ -6,7 +6,7 @@ use mathlib.Core.Bool.{Bool, true}
 use mathlib.Core.List.{List, [], _∷_}
 use Rattle.model.specs.declared.profile.Profile.{Profile}
 use Rattle.model.specs.declared.state.State.{State}
-use Rattle.model.specs.declared.weighing.Load.{Load}
+use Rattle.weight.specs.declared.loads.Load.{Load}
 use Rattle.device.specs.declared.call.Called.{Called}
 use Rattle.device.specs.Calls.{ByteCalled, SampleCalled}
 use Rattle.history.specs.Claim.{Calls, OverCalls, done, byteCall, sampleCall, byteEvent, sampleEvent}

@@ -22,7 +22,7 @@ use Rattle.waiting.specs.declared.react.Reaction.{Reaction}
 use Rattle.model.specs.declared.state.Pending.{Pending}
 use Rattle.model.specs.declared.state.Pending.the-variants.{Nothing, Weigh, Zero, Tare}
 use Rattle.model.specs.declared.state.State.{State}
-use Rattle.model.specs.declared.weighing.Load.{Load}
+use Rattle.weight.specs.declared.loads.Load.{Load}
 use Rattle.model.specs.declared.weighing.Weighing.{Weighing}
 use Rattle.model.specs.Profiles.{profileAllowed, textOf20, textOf40, textAllowed20, textAllowed40}
 use Rattle.commands.specs.Reactions.{weighing, zeroing, taring, run, identificationOf, performed, byteReaction}

@@ -12,7 +12,7 @@ use Rattle.device.specs.declared.call.Called.{Called}
 use Rattle.model.specs.declared.profile.Profile.{Profile}
 use Rattle.waiting.specs.declared.react.Reaction.{Reaction}
 use Rattle.model.specs.declared.state.State.{State}
-use Rattle.model.specs.declared.weighing.Load.{Load}
+use Rattle.weight.specs.declared.loads.Load.{Load}
 use Rattle.device.specs.Calls.{numberOfRefusal, answerBytes, ByteCalled, SampleCalled}
 use Rattle.model.specs.Profiles.{profileAllowed}
 use Rattle.commands.specs.Reactions.{performed, byteReaction}

@@ -20,7 +20,7 @@ use Rattle.model.specs.declared.state.Pending.{Pending}
 use Rattle.model.specs.declared.state.Pending.the-variants.{Nothing, Weigh, Zero, Tare}
 use Rattle.model.specs.declared.state.State.{State}
 use Rattle.model.specs.declared.state.Waiting.{Waiting}
-use Rattle.model.specs.declared.weighing.Load.{Load}
+use Rattle.weight.specs.declared.loads.Load.{Load}
 use Rattle.weighing.specs.declared.weighing.Measured.{Measured}
 use Rattle.model.specs.declared.weighing.Weighing.{Weighing}
 use Rattle.model.specs.Profiles.{textAllowed20, profileAllowed}

@@ -15,7 +15,7 @@ use Rattle.waiting.specs.declared.react.Reaction.{Reaction}
 use Rattle.model.specs.declared.state.Pending.{Pending}
 use Rattle.model.specs.declared.state.Pending.the-variants.{Nothing, Weigh, Zero, Tare}
 use Rattle.model.specs.declared.state.State.{State}
-use Rattle.model.specs.declared.weighing.Load.{Load}
+use Rattle.weight.specs.declared.loads.Load.{Load}
 use Rattle.device.specs.Calls.{answerBytes}
 use Rattle.waiting.specs.Waits.{withLine, withWeighing, withWaiting, reaction, measuredReaction, notWaiting, placeOfPending, settled, waited, sampleReaction}
 use Rattle.model.specs.States.{isPending, stateAllowed}

@@ -7,7 +7,7 @@ use mathlib.Core.List.{List, [], _∷_}
 use lib.ListN.{take}
 use Rattle.model.specs.declared.profile.Profile.{Profile}
 use Rattle.model.specs.declared.state.State.{State}
-use Rattle.model.specs.declared.weighing.Load.{Load}
+use Rattle.weight.specs.declared.loads.Load.{Load}
 use Rattle.device.specs.declared.call.Called.{Called}
 use Rattle.model.specs.declared.refusal.Refusal.the-variants as refusals
 use Rattle.device.specs.Calls.{numberOfRefusal, PowerOnCalled, ByteCalled, SampleCalled}

@@ -76,14 +76,14 @@ module _ (p : List ℕ) {q : Bool} (known : q ≡ isQuoted p) where
 -- ---- TA
 
 module _ (capacity : ℕ) (n : Typed) where
-  module _ {m : Tare} (told : n ≡ Amount m) where
-    pub within-capacity : m .0 ≤ capacity → Preset m ≡ amountRule capacity n
+  module _ {m : Tare} (told : n ≡ Amount m) {within : Bool} (known : within ≡ leb (m .0) capacity) where
+    pub within-capacity : within ≡ true → Preset m ≡ amountRule capacity n
     unfolding amountRule
-    within-capacity h = rw (told, le-leb (m .0) capacity h)
+    within-capacity e = rw (told, sym known ∙ e)
 
-    pub above-capacity : capacity < m .0 → Wrong 15 ≡ amountRule capacity n
+    pub above-capacity : within ≡ false → Wrong 15 ≡ amountRule capacity n
     unfolding amountRule
-    above-capacity h = rw (told, lt-leb (m .0) capacity h)
+    above-capacity e = rw (told, sym known ∙ e)
 
   pub too-large : n ≡ TooLarge → Wrong 15 ≡ amountRule capacity n
   unfolding amountRule

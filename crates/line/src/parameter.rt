@@ -11,6 +11,7 @@ use text::is_unit;
 use text::read_typed;
 use weight::Typed;
 use weight::WeightUnit;
+use weight::is_tare_within;
 
 const QUOTE: u8 = 34;
 
@@ -54,7 +55,7 @@ fn amount_rule(capacity: u32, typed: Typed) -> Verdict
 {
     match typed {
         Typed::Amount(amount) => {
-            if amount.0 <= capacity {
+            if is_tare_within(amount, capacity) {
                 Verdict::Preset(amount)
             } else {
                 Verdict::Wrong(TA)

@@ -10,12 +10,12 @@ use device::Called;
 use device::power_on;
 use device::take_byte;
 use device::take_sample;
-use model::Load;
 use model::Profile;
 use model::Refusal;
 use model::State;
 use model::start_state;
 use text::part;
+use weight::Load;
 
 const RECORD: usize = 8;
 

@@ -3,4 +3,3 @@ pub mod Nets
 pub mod ProfileFacts
 mod Sizes
 pub mod StateFacts
-mod Widening

@@ -2,7 +2,6 @@
 // The crates above use the promises of the functions named here and the laws of proofs/.
 mod profile;
 mod refusal;
-mod signed;
 mod state;
 mod weighing;
 
@@ -11,10 +10,6 @@ pub use profile::Text20;
 pub use profile::Text40;
 pub use profile::is_profile_allowed;
 pub use refusal::Refusal;
-pub use signed::above;
-pub use signed::from_count;
-pub use signed::from_load;
-pub use signed::negative_of;
 pub use state::Display;
 pub use state::Pending;
 pub use state::State;
@@ -22,5 +17,4 @@ pub use state::Waiting;
 pub use state::is_pending;
 pub use state::is_state_allowed;
 pub use state::start_state;
-pub use weighing::Load;
 pub use weighing::Weighing;

@@ -1,21 +1,18 @@
 // What changes between calls, grouped by who changes it, and whether it is allowed.
 ghost use mathlib.Core.Path.{_≡_};
-ghost use mathlib.Core.Bool.{not, _&&_, _||_};
-ghost use lib.Signed.{leZ};
+ghost use mathlib.Core.Bool.{not, _||_};
 ghost use Rattle.model.specs.Profiles.{textAllowed20};
 ghost use Rattle.model.specs.States.{isPending, stateAllowed, startState};
 use crate::profile::Profile;
 use crate::profile::Text20;
 use crate::profile::is_text_allowed20;
-use crate::signed::at_most;
-use crate::signed::from_count;
-use crate::signed::from_load;
-use crate::signed::negative_of;
-use crate::weighing::Load;
 use crate::weighing::Weighing;
 use line::Line;
-use weight::Micrograms;
-use weight::Tare;
+use weight::NO_LOAD;
+use weight::NO_TARE;
+use weight::from_load;
+use weight::is_tare_within;
+use weight::is_within;
 
 // The command that waits for a stable sample: S, Z or T.
 pub enum Pending {
@@ -60,12 +57,6 @@ pub fn is_pending(pending: Pending) -> bool
     }
 }
 
-fn is_between(low: Micrograms, weight: Micrograms, high: Micrograms) -> bool
-    ensures { λ r. ⌜ r ≡ leZ (low .0) (weight .0) && leZ (weight .0) (high .0) ⌝ }
-{
-    at_most(low, weight) & at_most(weight, high)
-}
-
 fn is_display_allowed(display: Display) -> bool
     ensures { λ r. ⌜ r ≡ not (display .shown) || textAllowed20 (display .text) ⌝ }
 {
@@ -85,14 +76,9 @@ pub fn is_state_allowed(profile: Profile, state: State) -> bool
     let waiting = state.waiting;
     let pending = waiting.pending;
     let display = state.display;
-    let zero_allowed = is_between(
-        negative_of(profile.zeroing),
-        from_load(zero),
-        from_count(profile.zeroing),
-    );
     let patient = !is_pending(pending) | (waiting.unstable < profile.timeout);
-    zero_allowed
-        & (tare.0 <= profile.capacity)
+    is_within(from_load(zero), profile.zeroing)
+        & is_tare_within(tare, profile.capacity)
         & (state.line.len <= LINE_LIMIT)
         & is_display_allowed(display)
         & patient
@@ -113,10 +99,10 @@ pub fn start_state() -> State
         returned: false,
     };
     let weighing = Weighing {
-        zero: Load(0),
-        tare: Tare(0),
+        zero: NO_LOAD,
+        tare: NO_TARE,
         sampled: false,
-        load: Load(0),
+        load: NO_LOAD,
         stable: false,
     };
     let waiting = Waiting {

@@ -1,8 +1,6 @@
 // Zero, tare and the latest sample.
+use weight::Load;
 use weight::Tare;
-
-// A sample's load, in micrograms.
-pub struct Load(pub i32);
 
 pub struct Weighing {
     // The load that counts as nothing.

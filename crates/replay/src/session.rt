@@ -6,12 +6,12 @@ use device::take_byte;
 use device::take_sample;
 use lent::fill;
 use lent::is_spilt;
-use model::Load;
 use model::Profile;
 use model::Refusal;
 use model::State;
 use model::start_state;
 use profiles::profile_a;
+use weight::Load;
 
 pub struct Session {
     pub profile: Profile,

@@ -2,8 +2,8 @@
 ghost use mathlib.Core.Path.{_≡_};
 ghost use Rattle.script.specs.Numbers.{withDigit, withDigits, numberOf, aboveZero, belowZero, loadOf};
 use crate::words::from;
-use model::Load;
 use text::byte_at;
+use weight::Load;
 
 // What a text that is no number gives: more than every number that is asked for.
 const NO_NUMBER: u64 = 99_999_999_999;

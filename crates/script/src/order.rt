@@ -13,10 +13,10 @@ use crate::profile::text_fits;
 use crate::words::after_word;
 use crate::words::first_word;
 use crate::words::from;
-use model::Load;
 use text::byte_at;
 use text::first_at;
 use text::same_text;
+use weight::Load;
 
 const LARGEST_ROOM: u64 = 1024;
 

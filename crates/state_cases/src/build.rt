@@ -1,11 +1,11 @@
 // The state of power-on with one thing changed.
 use model::Display;
-use model::Load;
 use model::Pending;
 use model::State;
 use model::Text20;
 use model::Waiting;
 use model::start_state;
+use weight::Load;
 use weight::Tare;
 
 pub fn zeroed(zero: i32) -> State {

@@ -5,11 +5,11 @@ use device::take_byte;
 use device::take_sample;
 use lent::fill;
 use lent::is_spilt;
-use model::Load;
 use model::Profile;
 use model::Refusal;
 use model::State;
 use profiles::profile_a;
+use weight::Load;
 
 fn number_of(refusal: Refusal) -> u8 {
     match refusal {

@@ -1,4 +1,4 @@
--- What is read of a field: the minus, the zeros that lead, the sign and the whole.
+-- What is read of a field: the minus, the zeros that lead and the whole.
 -- Assumes nothing.
 use mathlib.Core.Path.{_≡_, refl, _∙_, sym, ap, subst}
 use mathlib.Core.Bool.{Bool, true, false, cond, not, _&&_, _||_, or-true, or-false}
@@ -6,20 +6,18 @@ use mathlib.Core.List.{List, [], _∷_}
 use Prim.Native.Nat.{ℕ, _-_, _≤_, _<_}
 use native.Mathlib.Omega.{arith}
 use lib.Dec.{eqb, ltb}
-use lib.IntN.{ℤ, pos, _-ℤ_}
+use lib.IntN.{ℤ}
 use lib.ListN.{length, getD, take, drop, length-drop}
-use mir.Syntax.{w64}
-use mir.Val.{SFits, toZ, ofZ}
-use mir.Facts.{toZ-pos}
 use borrow.Author.Tests.{eq-eqb, ne-eqb, eqb-true, lt-leb}
 use Rattle.text.specs.declared.reading.FieldRead.{FieldRead}
 use Rattle.text.specs.declared.reading.FieldRead.the-variants.{Number, NoNumber}
 use Rattle.weight.specs.declared.rounding.LastPlaces.{LastPlaces}
 use Rattle.weight.specs.Ascii.{minus, point}
+use Rattle.weight.specs.Field.{signed, signedPlaces}
 use Rattle.text.specs.Decimals.{ReadsDecimal, MinusAt}
-use Rattle.text.specs.Reading.{beforePoint, hasMinus, afterMinus, noLeadingZero, signed, isDecimal, valueIn, decimalsIn, isWritten, readNumber, readField, afterSpaces}
+use Rattle.text.specs.Reading.{beforePoint, hasMinus, afterMinus, noLeadingZero, isDecimal, valueIn, decimalsIn, isWritten, readNumber, readField, afterSpaces}
 use Rattle.text.proofs.DecimalText.{both}
-use Rattle.weight.proofs.Machine.{opposite-asks, opposite-gives}
+use Rattle.weight.proofs.SignedPlaces.{signed-within}
 use Rattle.text.proofs.Searching.{rest-is}
 
 -- ---- the first byte
@@ -60,19 +58,6 @@ two-bytes (c ∷ d ∷ t) h = by (eqb c point) (eqb d point) refl
     by false true p = or-true (not (eqb c 48))
     by false false p = or-false (not (eqb c 48)) ∙ rw (lt-leb (length (c ∷ d ∷ beforePoint t)) 1 (omega arith))
 
--- ---- the sign
-
--- ten digits fit a signed word, below zero and not
-module _ (b : Bool) (m : ℕ) (h : m < 10_000_000_000) where
-  pub minus-fits : SFits w64 (pos 0 -ℤ toZ w64 m)
-  minus-fits = opposite-asks m (omega arith)
-
-  pub below-places : b ≡ true → toZ w64 (ofZ w64 (pos 0 -ℤ toZ w64 m)) ≡ signed b m
-  below-places e = rw e (opposite-gives m (omega arith))
-
-  pub other-places : b ≡ false → toZ w64 m ≡ signed b m
-  other-places e = rw e (toZ-pos w64 (omega arith))
-
 -- ---- the whole number
 
 -- what follows the first i bytes is no longer than the text
@@ -101,14 +86,14 @@ module _ (t : List ℕ) (i : ℕ) (m : MinusAt t i) (good shortest : Bool) (d v 
       go false e = refl
 
   -- the test holds: the number
-  pub read-written : (p : LastPlaces) → good && shortest && not (ltb 0 i && eqb v 0) ≡ true → p .0 ≡ signed (ltb 0 i) v → Number d p ≡ readNumber t
+  pub read-written : (p : LastPlaces) → good && shortest && not (ltb 0 i && eqb v 0) ≡ true → p .0 ≡ signedPlaces (ltb 0 i) v → Number d p ≡ readNumber t
   unfolding readNumber
   read-written p e q =
       let g : good ≡ true = both good shortest (both (good && shortest) (not (ltb 0 i && eqb v 0)) e .0) .0 in
       let is : isDecimal (afterMinus t) ≡ true = sym (decimal .is) ∙ g in
       let dn : d ≡ decimalsIn (afterMinus t) = decimal .places ∙ rw is in
       let vn : v ≡ valueIn (afterMinus t) = decimal .number ∙ rw is in
-      let z : p .0 ≡ signed (hasMinus t) (valueIn (afterMinus t)) = q ∙ rw (m .has, vn) in
+      let z : p .0 ≡ signed (hasMinus t) (valueIn (afterMinus t)) = q ∙ signed-within (ltb 0 i) v (r .small) ∙ rw (m .has, vn) in
       rw (sym written ∙ e)
       (ap (λ (x : ℕ). Number x p) dn ∙ ap (λ (x : ℤ). Number (decimalsIn (afterMinus t)) (record { 0 = x })) z)
 

@@ -15,10 +15,10 @@ use Rattle.text.specs.declared.reading.FieldRead.{FieldRead}
 use Rattle.text.specs.declared.reading.FieldRead.the-variants.{Number, NoNumber}
 use Rattle.weight.specs.declared.rounding.LastPlaces.{LastPlaces}
 use Rattle.weight.specs.Ascii.{space, minus, point, digit}
-use Rattle.weight.specs.Field.{lastDigits, digitsOf, decimalOf, numberText, widthOf, fitsField}
+use Rattle.weight.specs.Field.{lastDigits, digitsOf, decimalOf, numberText, widthOf, fitsField, signed}
 use Rattle.text.specs.Field.{fieldOf}
 use Rattle.text.specs.Reading.{beforePoint, afterPoint, hasPoint, isDigit, allDigits, numberFrom, isNumber, isDecimal, decimalsIn, valueIn}
-use Rattle.text.specs.Reading.{afterSpaces, hasMinus, afterMinus, noLeadingZero, isWritten, signed, readNumber, readField}
+use Rattle.text.specs.Reading.{afterSpaces, hasMinus, afterMinus, noLeadingZero, isWritten, readNumber, readField}
 use Rattle.weight.proofs.Digits.{digits-small, digits-step, last-digits-cons}
 use Rattle.text.proofs.DecimalText.{both, digit-range, DecimalParts, decimal-parts, number-parts}
 use Rattle.text.proofs.ReadBack.{shifted}

@@ -5,11 +5,11 @@ use Prim.Native.Nat.{ℕ, _+_, _-_, _*_}
 use mathlib.Core.Bool.{Bool, true, false, cond, not, _&&_, _||_}
 use mathlib.Core.List.{List, [], _∷_}
 use lib.Dec.{leb, eqb}
-use lib.IntN.{ℤ, pos, negℤ}
 use lib.ListN.{length, getD, drop}
 use Rattle.text.specs.declared.reading.FieldRead.{FieldRead}
 use Rattle.text.specs.declared.reading.FieldRead.the-variants.{Number, NoNumber}
 use Rattle.weight.specs.Ascii.{space, minus, point, digit}
+use Rattle.weight.specs.Field.{signed}
 use Rattle.text.specs.Searching.{beforeFirst, afterFirst, hasByte}
 
 -- the bytes before the first point, all of them where there is none
@@ -75,9 +75,6 @@ isWritten t =
     isDecimal (afterMinus t)
     && noLeadingZero (beforePoint (afterMinus t))
     && not (hasMinus t && eqb (valueIn (afterMinus t)) 0)
-
-abbrev pub signed : Bool → ℕ → ℤ
-signed negative m = cond negative (negℤ (pos m)) (pos m)
 
 -- the decimals and the last places of a field
 unfoldable pub readNumber : List ℕ → FieldRead

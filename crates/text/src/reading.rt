@@ -3,9 +3,10 @@ ghost use mathlib.Core.Path.{_≡_};
 ghost use Prim.Native.Nat.{_<_, _≤_};
 ghost use lib.ListN.{length, drop};
 ghost use Rattle.text.specs.Decimals.{TenDigits, ReadsWhole, ReadsDecimal, MinusAt};
-ghost use Rattle.text.specs.Reading.{afterSpaces, beforePoint, noLeadingZero, signed, readNumber, readField};
+ghost use Rattle.text.specs.Reading.{afterSpaces, beforePoint, noLeadingZero, readNumber, readField};
 use crate::scanning::first_at;
 use weight::LastPlaces;
+use weight::signed_places;
 
 // What ten characters are read as: the decimals and the number.
 pub enum FieldRead {
@@ -136,18 +137,6 @@ fn no_leading_zero(text: &[u8]) -> bool
     (text[0] != b'0') | (text[1] == POINT)
 }
 
-// A number with its sign.
-fn places(negative: bool, value: u64) -> LastPlaces
-    requires { ⌜ value < 10_000_000_000 ⌝ }
-    ensures { λ r. ⌜ r .0 ≡ signed negative value ⌝ }
-{
-    let n = value as i64;
-    if negative {
-        return LastPlaces(-n);
-    }
-    LastPlaces(n)
-}
-
 // A number written as a weight is: `text` is what follows the spaces.
 fn read_number(text: &[u8]) -> FieldRead
     requires { ⌜ length (now text) ≤ 10 ⌝ }
@@ -160,7 +149,7 @@ fn read_number(text: &[u8]) -> FieldRead
     let shortest = no_leading_zero(digits);
     let minus_zero = negative & (number.value == 0);
     if number.good & shortest & !minus_zero {
-        return FieldRead::Number(number.decimals, places(negative, number.value));
+        return FieldRead::Number(number.decimals, signed_places(negative, number.value));
     }
     FieldRead::NoNumber
 }

@@ -4,12 +4,12 @@ use crate::words::put_load;
 use crate::words::put_number;
 use line::Line;
 use model::Display;
-use model::Load;
 use model::Pending;
 use model::State;
 use model::Waiting;
 use model::Weighing;
 use text::part;
+use weight::Load;
 use weight::Tare;
 
 fn put_zero(line: &mut [u8], at: usize, zero: Load) -> usize {

@@ -1,7 +1,7 @@
 // Texts and numbers laid into a line, one after another. Each function takes the place to start at and answers the place after.
-use model::Load;
-use model::from_load;
 use weight::LastPlaces;
+use weight::Load;
+use weight::from_load;
 use weight::is_below_zero;
 use weight::size_of_number;
 

@@ -6,7 +6,7 @@ use Rattle.answer.specs.declared.answer.Answer.the-variants as answers
 use Rattle.model.specs.declared.profile.Profile.{Profile}
 use Rattle.waiting.specs.declared.react.Reaction.{Reaction}
 use Rattle.model.specs.declared.state.State.{State}
-use Rattle.model.specs.declared.weighing.Load.{Load}
+use Rattle.weight.specs.declared.loads.Load.{Load}
 use Rattle.waiting.specs.Waits.{chosenReaction, isAwaited, measuredReaction, notWaiting, reaction, sampleReaction, sampledState, settled, waited, withWaiting}
 use Rattle.model.specs.States.{isPending}
 use Rattle.weighing.specs.Weighings.{weighed}

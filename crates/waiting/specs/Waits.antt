@@ -14,7 +14,7 @@ use Rattle.model.specs.declared.state.Pending.the-variants.{Nothing, Weigh, Zer
 use Rattle.model.specs.declared.state.Waiting.{Waiting}
 use Rattle.model.specs.declared.state.Display.{Display}
 use Rattle.model.specs.declared.state.State.{State}
-use Rattle.model.specs.declared.weighing.Load.{Load}
+use Rattle.weight.specs.declared.loads.Load.{Load}
 use Rattle.model.specs.declared.weighing.Weighing.{Weighing}
 use Rattle.model.specs.States.{isPending}
 use Rattle.waiting.specs.declared.react.Reaction.{Reaction}

@@ -12,12 +12,12 @@ use crate::wait::not_waiting;
 use crate::wait::settled;
 use crate::wait::waited;
 use answer::Answer;
-use model::Load;
 use model::Profile;
 use model::State;
 use model::is_pending;
 use weighing::weighed;
 use weighing::with_sample;
+use weight::Load;
 
 // A sample that finds no command waiting is answered while a repetition runs.
 fn repeated(profile: Profile, state: State) -> Reaction

@@ -63,7 +63,7 @@ module _ (p : Profile) (w : Weighing) {gross : ℤ} (g : gross ≡ grossOf w) wh
       → n ≡ numberOf p gross
       → a ≡ Weight (headOf c status) n
       → {tare : ℕ}
-      → tare ≡ natAbs gross
+      → tare ≡ natAbs (grossOf w)
       → v ≡ withTare w tare
       → record { weighing = v; answer = a } ≡ tared p w c
   unfolding tared

@@ -1,6 +1,5 @@
 // Zero, tare and the latest sample: gross and net, and what S, Z, T and their kin make of them.
 // The crates above use the promises of the functions named here and the definitions of specs/.
-mod signed;
 mod weighing;
 
 pub use weighing::Measured;

@@ -1,26 +1,24 @@
 // Zero, tare and the latest sample, and what the commands do with them.
 ghost use mathlib.Core.Path.{_≡_};
-ghost use lib.IntN.{pos, negℤ};
-ghost use lib.Signed.{ltZ};
 ghost use Rattle.weighing.specs.Weighings as meaning;
-use crate::signed::minus;
-use crate::signed::tare_of;
 use answer::Answer;
 use answer::Head;
 use answer::Number;
 use answer::S;
 use answer::Status;
 use answer::TA;
-use model::Load;
 use model::Profile;
 use model::Weighing;
-use model::above;
-use model::from_count;
-use model::from_load;
-use model::negative_of;
+use weight::Load;
 use weight::Micrograms;
+use weight::NO_TARE;
 use weight::Tare;
+use weight::from_load;
+use weight::from_tare;
+use weight::is_over;
+use weight::is_under;
 use weight::printed_number;
+use weight::tare_of;
 
 // What a command made of the weighing, and its answer.
 pub struct Measured {
@@ -33,28 +31,16 @@ fn gross_of(weighing: Weighing) -> Micrograms
 {
     let load = weighing.load;
     let zero = weighing.zero;
-    minus(from_load(load), from_load(zero))
+    weight::gross_of(load, zero)
 }
 
 fn net_of(weighing: Weighing) -> Micrograms
     ensures { λ r. ⌜ r .0 ≡ meaning.netOf weighing ⌝ }
 {
+    let load = weighing.load;
+    let zero = weighing.zero;
     let tare = weighing.tare;
-    minus(gross_of(weighing), from_count(tare.0))
-}
-
-// Whether a weight is above a limit of the profile.
-fn is_over(weight: Micrograms, limit: u32) -> bool
-    ensures { λ r. ⌜ r ≡ ltZ (pos limit) (weight .0) ⌝ }
-{
-    above(weight, from_count(limit))
-}
-
-// Whether a weight is below zero by more than a limit of the profile.
-fn is_under(weight: Micrograms, limit: u32) -> bool
-    ensures { λ r. ⌜ r ≡ ltZ (weight .0) (negℤ (pos limit)) ⌝ }
-{
-    above(negative_of(limit), weight)
+    weight::net_of(load, zero, tare)
 }
 
 // A weight as it is printed.
@@ -130,7 +116,7 @@ fn with_zero(weighing: Weighing) -> Weighing
     let load = weighing.load;
     Weighing {
         zero: load,
-        tare: Tare(0),
+        tare: NO_TARE,
         sampled: weighing.sampled,
         load,
         stable: weighing.stable,
@@ -195,8 +181,10 @@ pub fn tared(profile: Profile, weighing: Weighing, command: u8) -> Measured
         return unchanged(weighing, plain(command, Status::Under));
     }
     let answer = weight_answer(command, stability(weighing), number_of(profile, gross));
+    let load = weighing.load;
+    let zero = weighing.zero;
     Measured {
-        weighing: with_tare(weighing, tare_of(gross)),
+        weighing: with_tare(weighing, tare_of(load, zero)),
         answer,
     }
 }
@@ -205,5 +193,5 @@ pub fn tared(profile: Profile, weighing: Weighing, command: u8) -> Measured
 pub fn tare_answer(profile: Profile, tare: Tare) -> Answer
     ensures { λ r. ⌜ r ≡ meaning.tareAnswer profile (tare .0) ⌝ }
 {
-    weight_answer(TA, Status::A, number_of(profile, from_count(tare.0)))
+    weight_answer(TA, Status::A, number_of(profile, from_tare(tare)))
 }

@@ -1,5 +1,6 @@
 pub mod Allowed
 mod BelowZero
+mod Differences
 pub mod Digits
 pub mod EveryNet
 pub mod HalfStep
@@ -11,5 +12,7 @@ pub mod Nearness
 mod Nearest
 mod Printable
 mod Range
+pub mod SignedPlaces
 pub mod TypedLimit
+mod Widening
 pub mod Width

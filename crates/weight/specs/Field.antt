@@ -3,10 +3,10 @@
 -- zero; and whether it fits ten characters.
 -- Assumes nothing.
 use Prim.Native.Nat.{ℕ, zero, suc, _/_, _%_, _^_}
-use mathlib.Core.Bool.{Bool, true, false, _&&_}
+use mathlib.Core.Bool.{Bool, true, false, cond, _&&_}
 use mathlib.Core.List.{List, [], _∷_, _++_}
 use lib.Dec.{leb, ltb}
-use lib.IntN.{ℤ, pos, negsuc}
+use lib.IntN.{ℤ, pos, negsuc, negℤ}
 use lib.ListN.{length}
 use Rattle.weight.specs.Ascii.{minus, point, digit}
 
@@ -39,3 +39,12 @@ widthOf d n = length (numberText d n)
 -- 0 to 6 decimals, and not over ten characters
 unfoldable pub fitsField : ℕ → ℤ → Bool
 fitsField d n = leb d 6 && leb (widthOf d n) 10
+
+-- ---- a number from its sign and its size
+
+abbrev pub signed : Bool → ℕ → ℤ
+signed negative m = cond negative (negℤ (pos m)) (pos m)
+
+-- 0 for a size of over ten digits
+unfoldable pub signedPlaces : Bool → ℕ → ℤ
+signedPlaces negative m = cond (leb 10_000_000_000 m) (pos 0) (signed negative m)

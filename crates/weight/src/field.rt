@@ -5,7 +5,7 @@ ghost use Prim.Native.Nat.{_-_, _^_};
 ghost use lib.Dec.{ltb};
 ghost use lib.IntN.{natAbs};
 ghost use lib.Signed.{nonNeg};
-ghost use Rattle.weight.specs.Field.{fitsField};
+ghost use Rattle.weight.specs.Field.{fitsField, signedPlaces};
 use crate::integer::Integer;
 use crate::integer::magnitude;
 use crate::rounding::LastPlaces;
@@ -21,6 +21,23 @@ pub fn is_below_zero(places: LastPlaces) -> bool
     ensures { λ r. ⌜ r ≡ not (nonNeg (places .0)) ⌝ }
 {
     places.0 < 0
+}
+
+// What ten digits stay below.
+const TEN_DIGITS: u64 = 10_000_000_000;
+
+// A number of its size and sign; 0 for one of over ten digits, which no ten characters hold.
+pub fn signed_places(negative: bool, size: u64) -> LastPlaces
+    ensures { λ r. ⌜ r .0 ≡ signedPlaces negative size ⌝ }
+{
+    if TEN_DIGITS <= size {
+        return LastPlaces(0);
+    }
+    let n = size as i64;
+    if negative {
+        return LastPlaces(-n);
+    }
+    LastPlaces(n)
 }
 
 // What the size of a number stays below in ten characters: they hold ten digits, and one less for a point and for a minus.

@@ -1,7 +1,9 @@
-// The arithmetic of weights: units, the rounding of a weight to display steps, whether a number fits ten characters, and
-// typed amounts. The crates above use the promises of the functions named here and the laws of proofs/.
+// The arithmetic of weights: units, gross and net, the rounding of a weight to display steps, whether a number fits ten
+// characters, and typed amounts. Every conversion between the counts that have a type of their own is here. The crates above use the promises of the functions named here and the laws of proofs/.
 mod field;
 mod integer;
+mod limits;
+mod loads;
 mod printing;
 mod rounding;
 mod typed;
@@ -9,7 +11,20 @@ mod units;
 
 pub use field::fits;
 pub use field::is_below_zero;
+pub use field::signed_places;
 pub use field::size_of_number;
+pub use limits::is_over;
+pub use limits::is_tare_within;
+pub use limits::is_under;
+pub use limits::is_within;
+pub use loads::Load;
+pub use loads::NO_LOAD;
+pub use loads::NO_TARE;
+pub use loads::from_load;
+pub use loads::from_tare;
+pub use loads::gross_of;
+pub use loads::net_of;
+pub use loads::tare_of;
 pub use printing::Printed;
 pub use printing::fits_below_zero;
 pub use printing::printed_number;

@@ -8,6 +8,9 @@ use Rattle.line.proofs.parameter.amount_rule.Tie as tie
 enum-known-typed : tie.Need-enum-known-typed
 enum-known-typed c = search needs
 
+is-tare-within-requires : tie.Need-is-tare-within-requires
+is-tare-within-requires c κs = search needs
+
 enum-told : tie.Need-enum-told
 enum-told c = search needs
 
@@ -31,6 +34,7 @@ amount-rule-spec =
     tie.close
     (tie.spec
     enum-known-typed
+    is-tare-within-requires
     enum-told
     enum-told-2
     returns

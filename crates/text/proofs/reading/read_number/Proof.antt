@@ -23,8 +23,8 @@ read-decimal-requires c κs = search (needs, rest-short)
 no-leading-zero-requires : tie.Need-no-leading-zero-requires
 no-leading-zero-requires c κs = search needs
 
-places-requires : tie.Need-places-requires
-places-requires c κs = search needs
+signed-places-requires : tie.Need-signed-places-requires
+signed-places-requires c κs = search needs
 
 returns : tie.Need-returns
 returns c = search (needs, read-written)
@@ -42,6 +42,6 @@ read-number-spec =
     part-digits-end
     read-decimal-requires
     no-leading-zero-requires
-    places-requires
+    signed-places-requires
     returns
     returns-2)

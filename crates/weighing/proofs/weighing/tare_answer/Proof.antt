@@ -2,8 +2,8 @@ use borrow.Author.Needs.{needs}
 use Rattle.weighing.proofs.weighing.tare_answer.Statement.{statement}
 use Rattle.weighing.proofs.weighing.tare_answer.Tie as tie
 
-from-count-requires : tie.Need-from-count-requires
-from-count-requires c κs = search needs
+from-tare-requires : tie.Need-from-tare-requires
+from-tare-requires c κs = search needs
 
 number-of-requires : tie.Need-number-of-requires
 number-of-requires c κs = search needs
@@ -12,7 +12,7 @@ weight-answer-requires : tie.Need-weight-answer-requires
 weight-answer-requires c κs = search needs
 
 returns : tie.Need-returns
-returns c = rw (c .weight-answer .ensures, c .before .number-of .ensures, c .before .before .from-count .ensures)
+returns c = rw (c .weight-answer .ensures, c .before .number-of .ensures, c .before .before .from-tare .ensures)
 
 pub tare-answer-spec : {M : Type 1} → statement M
-tare-answer-spec = tie.close (tie.spec from-count-requires number-of-requires weight-answer-requires returns)
+tare-answer-spec = tie.close (tie.spec from-tare-requires number-of-requires weight-answer-requires returns)

@@ -1,6 +1,5 @@
 use borrow.Author.Needs.{needs}
 use Rattle.weighing.proofs.Limits.{tared-over, tared-under, tared-gross}
-use Rattle.weighing.proofs.Reach.{not-negative, within-limit}
 use Rattle.weighing.proofs.weighing.tared.Statement.{statement}
 use Rattle.weighing.proofs.weighing.tared.Tie as tie
 
@@ -41,7 +40,7 @@ weight-answer-requires : tie.Need-weight-answer-requires
 weight-answer-requires c κs = search needs
 
 tare-of-requires : tie.Need-tare-of-requires
-tare-of-requires c κs = (search (needs, not-negative), search (needs, within-limit))
+tare-of-requires c κs = search needs
 
 with-tare-requires : tie.Need-with-tare-requires
 with-tare-requires c κs = search needs

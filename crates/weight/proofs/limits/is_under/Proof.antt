@@ -1,6 +1,8 @@
+-- `weight::limits::is_under` meets its contract.
+-- Assumes nothing.
 use borrow.Author.Needs.{needs}
-use Rattle.weighing.proofs.weighing.is_under.Statement.{statement}
-use Rattle.weighing.proofs.weighing.is_under.Tie as tie
+use Rattle.weight.proofs.limits.is_under.Statement.{statement}
+use Rattle.weight.proofs.limits.is_under.Tie as tie
 
 negative-of-requires : tie.Need-negative-of-requires
 negative-of-requires c κs = search needs

@@ -1,9 +1,9 @@
--- `model::signed::from_load` meets its contract.
+-- `weight::loads::from_load` meets its contract.
 -- Assumes nothing.
 use borrow.Author.Needs.{needs}
-use Rattle.model.proofs.Widening.{load-asks, load-gives}
-use Rattle.model.proofs.signed.from_load.Statement.{statement}
-use Rattle.model.proofs.signed.from_load.Tie as tie
+use Rattle.weight.proofs.Widening.{load-asks, load-gives}
+use Rattle.weight.proofs.loads.from_load.Statement.{statement}
+use Rattle.weight.proofs.loads.from_load.Tie as tie
 
 cast-t2 : tie.Need-cast-t2
 cast-t2 c = load-asks (c .before .before .args .load .0) (search needs)

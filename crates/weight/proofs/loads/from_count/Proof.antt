@@ -1,9 +1,9 @@
--- `model::signed::from_count` meets its contract.
+-- `weight::loads::from_count` meets its contract.
 -- Assumes nothing.
 use borrow.Author.Needs.{needs}
-use Rattle.model.proofs.Widening.{count-gives}
-use Rattle.model.proofs.signed.from_count.Statement.{statement}
-use Rattle.model.proofs.signed.from_count.Tie as tie
+use Rattle.weight.proofs.Widening.{count-gives}
+use Rattle.weight.proofs.loads.from_count.Statement.{statement}
+use Rattle.weight.proofs.loads.from_count.Tie as tie
 
 cast-t2 : tie.Need-cast-t2
 cast-t2 c = search needs

@@ -1,7 +1,9 @@
+-- `weight::loads::gross_of` meets its contract.
+-- Assumes nothing.
 use borrow.Author.Needs.{needs}
-use Rattle.weighing.proofs.Reach.{gross-fits}
-use Rattle.weighing.proofs.weighing.gross_of.Statement.{statement}
-use Rattle.weighing.proofs.weighing.gross_of.Tie as tie
+use Rattle.weight.proofs.Differences.{gross-fits}
+use Rattle.weight.proofs.loads.gross_of.Statement.{statement}
+use Rattle.weight.proofs.loads.gross_of.Tie as tie
 
 from-load-requires : tie.Need-from-load-requires
 from-load-requires c κs = search needs
@@ -11,8 +13,9 @@ from-load-requires-2 c κs = search needs
 
 minus-requires : tie.Need-minus-requires
 minus-requires c κs =
-    let start = c .before .before .before .before in
-    rw (c .from-load2 .ensures, c .before .from-load .ensures) (gross-fits (start .args .weighing) (search needs) (search needs))
+    let start = c .before .before in
+    rw (c .from-load2 .ensures, c .before .from-load .ensures)
+    (gross-fits (start .args .load .0) (start .args .zero .0) (search needs) (search needs))
 
 returns : tie.Need-returns
 returns c = rw (c .minus .ensures, c .before .from-load2 .ensures, c .before .before .from-load .ensures)

@@ -1,10 +1,10 @@
--- `model::signed::negative_of` meets its contract.
+-- `weight::loads::negative_of` meets its contract.
 -- Assumes nothing.
 use borrow.Author.Needs.{needs}
 use Rattle.weight.proofs.Machine.{opposite-asks, opposite-gives}
-use Rattle.model.proofs.Widening.{count-small}
-use Rattle.model.proofs.signed.negative_of.Statement.{statement}
-use Rattle.model.proofs.signed.negative_of.Tie as tie
+use Rattle.weight.proofs.Widening.{count-small}
+use Rattle.weight.proofs.loads.negative_of.Statement.{statement}
+use Rattle.weight.proofs.loads.negative_of.Tie as tie
 
 cast-m : tie.Need-cast-m
 cast-m c = search needs

@@ -1,6 +1,8 @@
+-- `weight::limits::is_over` meets its contract.
+-- Assumes nothing.
 use borrow.Author.Needs.{needs}
-use Rattle.weighing.proofs.weighing.is_over.Statement.{statement}
-use Rattle.weighing.proofs.weighing.is_over.Tie as tie
+use Rattle.weight.proofs.limits.is_over.Statement.{statement}
+use Rattle.weight.proofs.limits.is_over.Tie as tie
 
 from-count-requires : tie.Need-from-count-requires
 from-count-requires c κs = search needs

@@ -6,15 +6,12 @@ use mathlib.Core.Path.{_≡_, refl}
 use mathlib.Core.Bool.{true}
 use mathlib.Core.List.{List, [], _∷_, _++_, map}
 use lib.IntN.{ℤ, pos, negsuc}
-use lib.ListN.{replicate}
 use Rattle.answer.specs.Lines.{lineEnd, headText, weightText, lineOf}
 use Rattle.device.specs.Calls.{answerBytes}
 use Rattle.weighing.specs.Weighings.{weighed}
 use Rattle.model.specs.declared.profile.Profile.{Profile}
-use Rattle.model.specs.declared.profile.Text20.{Text20}
-use Rattle.model.specs.declared.profile.Text40.{Text40}
 use Rattle.model.specs.declared.weighing.Weighing.{Weighing}
-use Rattle.weight.specs.Ascii.{space}
+use Rattle.profiles.specs.ProfileA.{profileWith}
 use Rattle.text.specs.Ascii.{ascii}
 use Rattle.weight.specs.Field.{lastDigits, digitsIn, digitsOf, decimalOf, numberText, widthOf, fitsField}
 use Rattle.text.specs.Field.{fieldOf}
@@ -51,26 +48,9 @@ cases =
     ∷ case G 4 1 (negsuc 1_000_000) "S -"
     ∷ []
 
-abbrev pub noText40 : Text40
-noText40 = record { bytes = replicate 40 space; len = 0 }
-
-abbrev pub noText20 : Text20
-noText20 = record { bytes = replicate 20 space; len = 0 }
-
--- document 01's profile A, in the case's unit, decimals and step
+-- profile A, in the case's unit, decimals and step
 abbrev pub profileOf : Case → Profile
-profileOf c =
-    record {
-      capacity = 220_000_000;
-      underload = 1_000_000;
-      zeroing = 4_400_000;
-      timeout = 3;
-      resolution = record { unit = c .unit; decimals = c .decimals; step = c .step };
-      model = noText40;
-      software = noText40;
-      serial = record { bytes = ascii "VA-0001" ++ replicate 13 space; len = 7 };
-      identity = noText20;
-    }
+profileOf c = profileWith (record { unit = c .unit; decimals = c .decimals; step = c .step })
 
 abbrev pub weighingOf : Case → Weighing
 weighingOf c =

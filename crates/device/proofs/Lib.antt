@@ -1,4 +1,3 @@
 pub mod BenchCases
 mod Delivery
-pub mod Numbers
 mod Refusals

@@ -9,24 +9,16 @@ use Rattle.answer.specs.declared.answer.Answer.{Answer}
 use Rattle.answer.specs.declared.answer.Answer.the-variants.{Nothing, Plain, Weight, Refused, Text, Listed, CommandList, Versions}
 use Rattle.answer.specs.Lines.{lineOf}
 use Rattle.emit.specs.Rooms.{fitsRoom, laidIn}
-use Rattle.model.specs.declared.refusal.Refusal.{Refusal}
-use Rattle.model.specs.declared.refusal.Refusal.the-variants as refusals
 use Rattle.device.specs.declared.call.Called.{Called}
 use Rattle.model.specs.declared.profile.Profile.{Profile}
 use Rattle.waiting.specs.declared.react.Reaction.{Reaction}
 use Rattle.model.specs.declared.state.State.{State}
 use Rattle.weight.specs.declared.loads.Load.{Load}
 use Rattle.model.specs.Profiles.{profileAllowed, identityText}
+use Rattle.model.specs.Refusals.{numberOfRefusal}
 use Rattle.model.specs.States.{stateAllowed, startState}
 use Rattle.commands.specs.Reactions.{byteReaction}
 use Rattle.waiting.specs.Waits.{sampleReaction, reaction}
-
--- the paper's number
-abbrev pub numberOfRefusal : Refusal → ℕ
-numberOfRefusal refusals.None = 0
-numberOfRefusal refusals.Profile = 1
-numberOfRefusal refusals.State = 2
-numberOfRefusal refusals.Room = 3
 
 -- the command whose text goes with an answer; 0, which has none, for every other
 abbrev pub identityIn : Answer → ℕ
@@ -47,21 +39,16 @@ answerText p a = identityText p (identityIn a)
 unfoldable pub answerBytes : Profile → Answer → List ℕ
 answerBytes p a = lineOf a (answerText p a)
 
--- what a call returns, and what its buffer holds at the end
+-- what a call gives: the paper's refusal number, 0 for none, the state and n that it returns, and its buffer at the end
 pub record Outcome : Type 0 where
-  pub called : Called
+  pub number : ℕ
+  pub state : State
+  pub count : ℕ
   pub buffer : List ℕ
 
 -- on a refusal: the given state, n = 0, buffer untouched
-abbrev pub refusedCall : Refusal → State → Called
-refusedCall r s = record { refusal = r; state = s; count = 0 }
-
--- with n bytes of answer
-abbrev pub takenCall : State → ℕ → Called
-takenCall s n = record { refusal = refusals.None; state = s; count = n }
-
-abbrev pub refused : Refusal → State → List ℕ → Outcome
-refused r s room = record { called = refusedCall r s; buffer = room }
+abbrev pub refused : ℕ → State → List ℕ → Outcome
+refused n s room = record { number = n; state = s; count = 0; buffer = room }
 
 abbrev pub chosenOutcome : Bool → Outcome → Outcome → Outcome
 chosenOutcome true a b = a
@@ -72,16 +59,16 @@ unfoldable pub delivered : Profile → State → Reaction → List ℕ → Outco
 delivered p s r room =
     let bytes = answerBytes p (r .answer) in
     chosenOutcome (fitsRoom bytes room)
-    (record { called = takenCall (r .state) (length bytes); buffer = laidIn bytes room })
-    (refused refusals.Room s room)
+    (record { number = 0; state = r .state; count = length bytes; buffer = laidIn bytes room })
+    (refused 3 s room)
 
 -- 1: profile refused, before anything else
 unfoldable pub ofProfile : Profile → State → List ℕ → Outcome → Outcome
-ofProfile p s room next = chosenOutcome (profileAllowed p) next (refused refusals.Profile s room)
+ofProfile p s room next = chosenOutcome (profileAllowed p) next (refused 1 s room)
 
 -- 2: state refused
 unfoldable pub ofState : Profile → State → List ℕ → Outcome → Outcome
-ofState p s room next = chosenOutcome (stateAllowed p s) next (refused refusals.State s room)
+ofState p s room next = chosenOutcome (stateAllowed p s) next (refused 2 s room)
 
 -- power-on sends the I4 line; it reads no earlier state
 unfoldable pub powerOnOutcome : Profile → State → List ℕ → Outcome
@@ -93,20 +80,19 @@ byteOutcome p s b bad room = ofProfile p s room (ofState p s room (delivered p s
 unfoldable pub sampleOutcome : Profile → State → Load → Bool → List ℕ → Outcome
 sampleOutcome p s load stable room = ofProfile p s room (ofState p s room (delivered p s (sampleReaction p s load stable) room))
 
--- ---- what the contracts of a delivery and of the three calls say: the result and the whole buffer at exit, for every input
+-- ---- what the contracts say: the refusal number, the result and the whole buffer at exit, for every input
 
-pub record DeliveredCall (p : Profile) (s : State) (q : Reaction) (room : List ℕ) (r : Called) (buffer : List ℕ) : Type 0 where
-  pub returned : r ≡ delivered p s q room .called
-  pub left : buffer ≡ delivered p s q room .buffer
+pub record Gives (o : Outcome) (r : Called) (buffer : List ℕ) : Type 0 where
+  pub numbered : numberOfRefusal (r .refusal) ≡ o .number
+  pub returned : r .state ≡ o .state
+  pub counted : r .count ≡ o .count
+  pub left : buffer ≡ o .buffer
 
 pub record PowerOnCalled (p : Profile) (s : State) (room : List ℕ) (r : Called) (buffer : List ℕ) : Type 0 where
-  pub returned : r ≡ powerOnOutcome p s room .called
-  pub left : buffer ≡ powerOnOutcome p s room .buffer
+  pub gives : Gives (powerOnOutcome p s room) r buffer
 
 pub record ByteCalled (p : Profile) (s : State) (b : ℕ) (bad : Bool) (room : List ℕ) (r : Called) (buffer : List ℕ) : Type 0 where
-  pub returned : r ≡ byteOutcome p s b bad room .called
-  pub left : buffer ≡ byteOutcome p s b bad room .buffer
+  pub gives : Gives (byteOutcome p s b bad room) r buffer
 
 pub record SampleCalled (p : Profile) (s : State) (load : Load) (stable : Bool) (room : List ℕ) (r : Called) (buffer : List ℕ) : Type 0 where
-  pub returned : r ≡ sampleOutcome p s load stable room .called
-  pub left : buffer ≡ sampleOutcome p s load stable room .buffer
+  pub gives : Gives (sampleOutcome p s load stable room) r buffer

@@ -3,7 +3,7 @@
 // group of the state and need no buffer.
 ghost use mathlib.Core.Path.{_≡_};
 ghost use mathlib.Core.Bool.{true};
-ghost use Rattle.device.specs.Calls.{refusedCall, takenCall, DeliveredCall, PowerOnCalled, ByteCalled, SampleCalled};
+ghost use Rattle.device.specs.Calls.{delivered, Gives, PowerOnCalled, ByteCalled, SampleCalled};
 ghost use Rattle.model.specs.Profiles.{profileAllowed};
 use crate::buffer::emit_due;
 use answer::Answer;
@@ -32,7 +32,7 @@ pub struct Called {
 }
 
 fn refused(refusal: Refusal, given: State) -> Called
-    ensures { λ r. ⌜ r ≡ refusedCall refusal given ⌝ }
+    ensures { λ r. ⌜ r ≡ record { refusal = refusal; state = given; count = 0 } ⌝ }
 {
     Called {
         refusal,
@@ -42,7 +42,7 @@ fn refused(refusal: Refusal, given: State) -> Called
 }
 
 fn taken(state: State, count: usize) -> Called
-    ensures { λ r. ⌜ r ≡ takenCall state count ⌝ }
+    ensures { λ r. ⌜ r ≡ record { refusal = Refusal.None; state = state; count = count } ⌝ }
 {
     Called {
         refusal: Refusal::None,
@@ -54,7 +54,7 @@ fn taken(state: State, count: usize) -> Called
 // The answer that is due goes into the buffer, or the call is refused for want of room.
 fn deliver(profile: Profile, given: State, reaction: Reaction, out: &mut [u8]) -> Called
     requires { ⌜ profileAllowed profile ≡ true ⌝ }
-    ensures { λ r. ⌜ DeliveredCall profile given reaction (now (out .entry)) r (now (out .exit)) ⌝ }
+    ensures { λ r. ⌜ Gives (delivered profile given reaction (now (out .entry))) r (now (out .exit)) ⌝ }
 {
     let answer = reaction.answer;
     let emitted = emit_due(profile, answer, out);

@@ -13,7 +13,8 @@ use Rattle.model.specs.declared.profile.Profile.{Profile}
 use Rattle.waiting.specs.declared.react.Reaction.{Reaction}
 use Rattle.model.specs.declared.state.State.{State}
 use Rattle.weight.specs.declared.loads.Load.{Load}
-use Rattle.device.specs.Calls.{numberOfRefusal, answerBytes, ByteCalled, SampleCalled}
+use Rattle.model.specs.Refusals.{numberOfRefusal}
+use Rattle.device.specs.Calls.{answerBytes, ByteCalled, SampleCalled}
 use Rattle.model.specs.Profiles.{profileAllowed}
 use Rattle.commands.specs.Reactions.{performed, byteReaction}
 use Rattle.waiting.specs.Waits.{withLine, chosenReaction, reaction, waited, sampleReaction}

@@ -1,21 +1,21 @@
 -- What a call returns where profile and state are allowed: the reaction and its answer, or refusal 3 and nothing.
 -- Assumes nothing.
-use mathlib.Core.Path.{_≡_, refl, sym, ap}
+use mathlib.Core.Path.{_≡_, refl, sym, _∙_}
 use mathlib.Core.Bool.{Bool, true, false}
 use mathlib.Core.List.{List, []}
-use Prim.Native.Nat.{ℕ, suc}
+use Prim.Native.Nat.{ℕ}
 use native.Mathlib.Omega.{arith}
 use lib.ListN.{length, take, drop}
 use lib.Seq.{take-append-seam}
 use Rattle.answer.specs.declared.answer.Answer.the-variants.{Text}
 use Rattle.emit.specs.Rooms.{fitsRoom, laidIn}
 use Rattle.device.specs.declared.call.Called.{Called}
-use Rattle.model.specs.declared.refusal.Refusal.the-variants as refusals
 use Rattle.model.specs.declared.profile.Profile.{Profile}
 use Rattle.waiting.specs.declared.react.Reaction.{Reaction}
 use Rattle.model.specs.declared.state.State.{State}
 use Rattle.weight.specs.declared.loads.Load.{Load}
-use Rattle.device.specs.Calls.{numberOfRefusal, answerBytes, delivered, ofProfile, ofState, powerOnOutcome, byteOutcome, sampleOutcome, PowerOnCalled, ByteCalled, SampleCalled}
+use Rattle.model.specs.Refusals.{numberOfRefusal}
+use Rattle.device.specs.Calls.{answerBytes, delivered, ofProfile, ofState, powerOnOutcome, byteOutcome, sampleOutcome, Outcome, Gives, PowerOnCalled, ByteCalled, SampleCalled}
 use Rattle.model.specs.Profiles.{profileAllowed}
 use Rattle.commands.specs.Reactions.{byteReaction}
 use Rattle.waiting.specs.Waits.{sampleReaction}
@@ -26,28 +26,29 @@ pub data Delivered (p : Profile) (s : State) (x : Reaction) (r : Called) (buffer
   withheld : numberOfRefusal (r .refusal) ≡ 3 → r .state ≡ s → take (r .count) buffer ≡ [] → Delivered p s x r buffer
 
 module _ (p : Profile) (s : State) (room : List ℕ) where
-  by-room : (x : Reaction) (fits : Bool) → fitsRoom (answerBytes p (x .answer)) room ≡ fits
-      → Delivered p s x (delivered p s x room .called) (delivered p s x room .buffer)
+  by-room : (x : Reaction) {r : Called} {buffer : List ℕ} (fits : Bool) → fitsRoom (answerBytes p (x .answer)) room ≡ fits
+      → Gives (delivered p s x room) r buffer → Delivered p s x r buffer
   unfolding delivered laidIn
-  by-room x true e =
-      rw e (given refl refl (take-append-seam (answerBytes p (x .answer)) (drop (length (answerBytes p (x .answer))) room)))
-  by-room x false e = rw e (withheld refl refl refl)
+  by-room x true e g =
+      let h = rw e at g in
+      given (h .numbered) (h .returned)
+      (rw (h .counted, h .left) (take-append-seam (answerBytes p (x .answer)) (drop (length (answerBytes p (x .answer))) room)))
+  by-room x false e g = let h = rw e at g in withheld (h .numbered) (h .returned) (rw (h .counted))
 
-  by-call : (x : Reaction) {r : Called} {buffer : List ℕ} → r ≡ delivered p s x room .called → buffer ≡ delivered p s x room .buffer
-      → Delivered p s x r buffer
-  by-call x e f = rw (e, f) (by-room x (fitsRoom (answerBytes p (x .answer)) room) refl)
+  by-call : (x : Reaction) {r : Called} {buffer : List ℕ} → Gives (delivered p s x room) r buffer → Delivered p s x r buffer
+  by-call x g = by-room x (fitsRoom (answerBytes p (x .answer)) room) refl g
 
   module _ (profile : profileAllowed p ≡ true) (state : stateAllowed p s ≡ true) {r : Called} {buffer : List ℕ} where
     pub byte-delivered : {b : ℕ} {bad : Bool} → ByteCalled p s b bad room r buffer → Delivered p s (byteReaction p s b bad) r buffer
     unfolding byteOutcome ofProfile ofState
     byte-delivered {b} {bad} c =
-        by-call (byteReaction p s b bad) (rw (profile, state) at (c .returned)) (rw (profile, state) at (c .left))
+        by-call (byteReaction p s b bad) (rw (profile, state) at (c .gives))
 
     pub sample-delivered : {load : Load} {stable : Bool} → SampleCalled p s load stable room r buffer
         → Delivered p s (sampleReaction p s load stable) r buffer
     unfolding sampleOutcome ofProfile ofState
     sample-delivered {load} {stable} c =
-        by-call (sampleReaction p s load stable) (rw (profile, state) at (c .returned)) (rw (profile, state) at (c .left))
+        by-call (sampleReaction p s load stable) (rw (profile, state) at (c .gives))
 
 -- ---- power-on
 
@@ -57,13 +58,16 @@ pub record Started (p : Profile) (r : Called) (buffer : List ℕ) : Type 0 where
   pub state : r .state ≡ startState
   pub sent : take (r .count) buffer ≡ answerBytes p (Text 4)
 
-module _ (p : Profile) (earlier : State) (room : List ℕ) where
-  not-none : (n : ℕ) → numberOfRefusal refusals.None ≡ suc n → ⊥
-  not-none n e = omega arith
+-- the same of its outcome
+record Opened (p : Profile) (o : Outcome) : Type 0 where
+  pub profile : profileAllowed p ≡ true
+  pub state : o .state ≡ startState
+  pub sent : take (o .count) (o .buffer) ≡ answerBytes p (Text 4)
 
+module _ (p : Profile) (earlier : State) (room : List ℕ) where
   started-by : (allowed fits : Bool) → profileAllowed p ≡ allowed → fitsRoom (answerBytes p (Text 4)) room ≡ fits
-      → powerOnOutcome p earlier room .called .refusal ≡ refusals.None
-      → Started p (powerOnOutcome p earlier room .called) (powerOnOutcome p earlier room .buffer)
+      → powerOnOutcome p earlier room .number ≡ 0
+      → Opened p (powerOnOutcome p earlier room)
   unfolding powerOnOutcome ofProfile delivered laidIn
   started-by true true e f n =
       record {
@@ -71,10 +75,15 @@ module _ (p : Profile) (earlier : State) (room : List ℕ) where
         state = rw (e, f);
         sent = rw (e, f) (take-append-seam (answerBytes p (Text 4)) (drop (length (answerBytes p (Text 4))) room));
       }
-  started-by true false e f n = absurd (not-none 2 (sym (ap numberOfRefusal (rw (e, f) at n))))
-  started-by false fits e f n = absurd (not-none 0 (sym (ap numberOfRefusal (rw e at n))))
+  started-by true false e f n = absurd (omega (arith, rw (e, f) at n))
+  started-by false fits e f n = absurd (omega (arith, rw e at n))
 
-  pub started : {r : Called} {buffer : List ℕ} → PowerOnCalled p earlier room r buffer → r .refusal ≡ refusals.None → Started p r buffer
+  pub started : {r : Called} {buffer : List ℕ} → PowerOnCalled p earlier room r buffer → numberOfRefusal (r .refusal) ≡ 0 → Started p r buffer
   started c n =
-      rw (c .returned, c .left)
-      (started-by (profileAllowed p) (fitsRoom (answerBytes p (Text 4)) room) refl refl (rw (c .returned) at n))
+      let o : Opened p (powerOnOutcome p earlier room) =
+      started-by (profileAllowed p) (fitsRoom (answerBytes p (Text 4)) room) refl refl (sym (c .gives .numbered) ∙ n) in
+      record {
+        profile = o .profile;
+        state = c .gives .returned ∙ o .state;
+        sent = rw (c .gives .counted, c .gives .left) (o .sent);
+      }

@@ -9,8 +9,8 @@ use Rattle.model.specs.declared.profile.Profile.{Profile}
 use Rattle.model.specs.declared.state.State.{State}
 use Rattle.weight.specs.declared.loads.Load.{Load}
 use Rattle.device.specs.declared.call.Called.{Called}
-use Rattle.model.specs.declared.refusal.Refusal.the-variants as refusals
-use Rattle.device.specs.Calls.{numberOfRefusal, PowerOnCalled, ByteCalled, SampleCalled}
+use Rattle.model.specs.Refusals.{numberOfRefusal}
+use Rattle.device.specs.Calls.{PowerOnCalled, ByteCalled, SampleCalled}
 use Rattle.history.specs.Tally.{Event, byteIs, sampleIs, startTally, accepts}
 
 -- what the tally is fed of a byte call and of a sample call: the answer is the first n bytes of the buffer
@@ -37,7 +37,7 @@ abbrev pub OverCalls : (Profile → List ℕ → List Event → Type 0) → Type
 OverCalls Holds =
     (p : Profile) (earlier : State) (room : List ℕ) (r : Called) (buffer : List ℕ)
     → PowerOnCalled p earlier room r buffer
-    → r .refusal ≡ refusals.None
+    → numberOfRefusal (r .refusal) ≡ 0
     → (es : List Event) (s : State)
     → Calls p (r .state) es s
     → Holds p (take (r .count) buffer) es

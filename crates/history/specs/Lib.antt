@@ -1,6 +1,5 @@
 pub mod Claim
 pub mod EndToEnd
-pub mod ProfileTmp
 pub mod Rejected
 pub mod Tally
 pub mod Waits

@@ -7,7 +7,7 @@ use mathlib.Core.Bool.{Bool, true, false, not, _&&_}
 use mathlib.Core.List.{List, [], _∷_, _++_, map}
 use lib.IntN.{ℤ, pos}
 use Rattle.model.specs.declared.profile.Profile.{Profile}
-use Rattle.history.specs.ProfileTmp.{profileIn}
+use Rattle.profiles.specs.ProfileA.{profileWith}
 use Rattle.text.specs.Ascii.{ascii}
 use Rattle.weight.specs.declared.rounding.Resolution.{Resolution}
 use Rattle.weight.specs.declared.units.WeightUnit.the-variants.{G, Oz, Gn}
@@ -166,7 +166,7 @@ rows = weightRows ++ stateRows ++ waitRows
 
 -- the wrong one is rejected, the right one accepted
 abbrev pub tells : Row → Bool
-tells r = not (accepted (r .follower) (profileIn (r .resolution)) (r .wrong)) && accepted (r .follower) (profileIn (r .resolution)) (r .right)
+tells r = not (accepted (r .follower) (profileWith (r .resolution)) (r .wrong)) && accepted (r .follower) (profileWith (r .resolution)) (r .right)
 
 unfoldable pub allTell : List Row → Bool
 allTell [] = true

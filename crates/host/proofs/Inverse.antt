@@ -8,9 +8,10 @@ use native.Mathlib.Omega.{arith}
 use Rattle.answer.specs.Lines.{lineOf}
 use Rattle.answer.specs.declared.answer.Answer.{Answer}
 use Rattle.forms.specs.Forms.{canForm}
+use Rattle.host.specs.declared.reader.Read.{Read}
 use Rattle.host.specs.declared.reader.Read.the-variants.{Line, Refused}
 use Rattle.host.specs.declared.reader.ReadText.{ReadText}
-use Rattle.host.specs.Reads.{guessed, textPlace, textAt, confirms, readLine}
+use Rattle.host.specs.Reads.{guessed, textPlace, textAt, confirms, readLine, numberOfRead}
 use Rattle.host.proofs.Texts.{text-back}
 use Rattle.host.proofs.Guessing.{guessed-back}
 use Rattle.text.specs.Ascii.{sameText}
@@ -73,3 +74,11 @@ unformed-refused l none =
 -- a line is refused exactly when no answer forms it
 pub refused-exactly : (l : List ℕ) → (readLine l ≡ Refused → Unformed l) × (Unformed l → readLine l ≡ Refused)
 refused-exactly l = (formed-read l, unformed-refused l)
+
+four-refused : (r : Read) → numberOfRead r ≡ 4 → r ≡ Refused
+four-refused (Line a p) e = absurd (omega arith)
+four-refused Refused e = refl
+
+-- so its number is 4
+pub four-exactly : (l : List ℕ) → (numberOfRead (readLine l) ≡ 4 → Unformed l) × (Unformed l → numberOfRead (readLine l) ≡ 4)
+four-exactly l = (λ e. refused-exactly l .0 (four-refused (readLine l) e), λ u. ap numberOfRead (refused-exactly l .1 u))

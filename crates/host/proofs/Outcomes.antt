@@ -15,13 +15,13 @@ use Rattle.answer.specs.declared.answer.Head.{Head}
 use Rattle.emit.specs.declared.emit.Emitted.{Emitted}
 use Rattle.forms.specs.Forms.{plainForm, canForm}
 use Rattle.forms.proofs.Forming.{form-length}
+use Rattle.host.specs.declared.reader.Read.{Read}
 use Rattle.host.specs.declared.reader.Read.the-variants.{Line, Refused}
 use Rattle.host.specs.declared.reader.ReadText.{ReadText}
 use Rattle.host.specs.declared.writer.Refusal.the-variants as refusals
-use Rattle.host.specs.declared.writer.Written.{Written}
 use Rattle.host.specs.Frames.{isEnded, frameOf}
-use Rattle.host.specs.Reads.{headGuess, guessed, textPlace, textAt, readLine}
-use Rattle.host.specs.Writes.{refusalOf, writtenLine, writtenBuffer}
+use Rattle.host.specs.Reads.{headGuess, guessed, textPlace, textAt, isAnswer, readLine, numberOfRead, numberOfLine}
+use Rattle.host.specs.Writes.{writing, WritesLine}
 use Rattle.host.proofs.Branches.{spaced-branch, plain-branch}
 use Rattle.host.proofs.Confirming.{framed-confirms}
 use Rattle.host.proofs.Inverse.{refused-exactly}
@@ -78,31 +78,32 @@ module _ (l : List ℕ) (n : ℕ) (h : Head) (name : n ≡ length (beforeSpace l
     pub plain-refused : ended && form ≡ false → Refused ≡ readLine l
     plain-refused t = rw t at plain-tests
 
+-- ---- the number of what is read
+
+number-by : (l : List ℕ) (b : Bool) → isAnswer l ≡ b → numberOfRead (readLine l) ≡ numberOfLine l
+unfolding readLine numberOfLine
+number-by l true e = rw e
+number-by l false e = rw e
+
+pub numbered-read : (r : Read) (l : List ℕ) → r ≡ readLine l → (r ≡ readLine l) × (numberOfRead r ≡ numberOfLine l)
+numbered-read r l e = (e, ap numberOfRead e ∙ number-by l (isAnswer l) refl)
+
 -- ---- a line written
 
 module _ (a : Answer) (t room : List ℕ) (b : Bool) (test : b ≡ canForm a t) where
-  pub unformed-result : b ≡ false → _≡_ {A = Written} (record { refusal = refusals.Form; count = 0 }) (writtenLine a t room)
-  unfolding writtenLine refusalOf
-  unformed-result left = rw (← test, left)
+  pub unformed : b ≡ false → WritesLine a t room (record { refusal = refusals.Form; count = 0 }) room
+  unfolding writing
+  unformed left = record { numbered = rw (← test, left); counted = rw (← test, left); left = rw (← test, left) }
 
-  pub unformed-buffer : b ≡ false → room ≡ writtenBuffer a t room
-  unfolding writtenBuffer
-  unformed-buffer left = rw (← test, left)
+  module _ (taken : b ≡ true) {w : Emitted} (e : w ≡ emitted (lineOf a t) room) {out : List ℕ} (laid : out ≡ laidIn (lineOf a t) room) where
+    pub written : w .fits ≡ true → WritesLine a t room (record { refusal = refusals.None; count = w .count }) out
+    unfolding writing emitted laidIn
+    written fits =
+        let f : fitsRoom (lineOf a t) room ≡ true = sym (ap (λ (x : Emitted). x .fits) e) ∙ fits in
+        record { numbered = rw (← test, taken, f); counted = rw (e, ← test, taken, f); left = laid ∙ rw (← test, taken, f) }
 
-  module _ (taken : b ≡ true) where
-    pub formed-buffer : {out : List ℕ} → out ≡ laidIn (lineOf a t) room → out ≡ writtenBuffer a t room
-    unfolding writtenBuffer
-    formed-buffer laid = rw (← test, taken) laid
-
-    module _ (w : Emitted) (e : w ≡ emitted (lineOf a t) room) where
-      pub written-result : w .fits ≡ true → _≡_ {A = Written} (record { refusal = refusals.None; count = w .count }) (writtenLine a t room)
-      unfolding writtenLine refusalOf emitted
-      written-result fits =
-          let f : fitsRoom (lineOf a t) room ≡ true = sym (ap (λ (x : Emitted). x .fits) e) ∙ fits in
-          rw (e, ← test, taken, f)
-
-      pub no-room-result : w .fits ≡ false → _≡_ {A = Written} (record { refusal = refusals.Room; count = 0 }) (writtenLine a t room)
-      unfolding writtenLine refusalOf emitted
-      no-room-result fits =
-          let f : fitsRoom (lineOf a t) room ≡ false = sym (ap (λ (x : Emitted). x .fits) e) ∙ fits in
-          rw (← test, taken, f)
+    pub no-room : w .fits ≡ false → WritesLine a t room (record { refusal = refusals.Room; count = 0 }) out
+    unfolding writing emitted laidIn
+    no-room fits =
+        let f : fitsRoom (lineOf a t) room ≡ false = sym (ap (λ (x : Emitted). x .fits) e) ∙ fits in
+        record { numbered = rw (← test, taken, f); counted = rw (← test, taken, f); left = laid ∙ rw (← test, taken, f) }

@@ -98,8 +98,19 @@ textAt t l = take (t .len) (drop (t .start) l)
 unfoldable pub confirms : Answer → List ℕ → List ℕ → Bool
 confirms a t l = canForm a t && sameText (lineOf a t) l
 
+-- the line is one of an answer: of the one that it could be
+abbrev pub isAnswer : List ℕ → Bool
+isAnswer l = confirms (guessed l) (textAt (textPlace (guessed l) l) l) l
+
 unfoldable pub readLine : List ℕ → Read
-readLine l =
-    let a = guessed l in
-    let t = textPlace a l in
-    cond (confirms a (textAt t l) l) (reads.Line a t) reads.Refused
+readLine l = cond (isAnswer l) (reads.Line (guessed l) (textPlace (guessed l) l)) reads.Refused
+
+-- ---- the paper's refusal number
+
+abbrev pub numberOfRead : Read → ℕ
+numberOfRead (reads.Line a t) = 0
+numberOfRead reads.Refused = 4
+
+-- 4: the line is no answer of the forms
+unfoldable pub numberOfLine : List ℕ → ℕ
+numberOfLine l = cond (isAnswer l) 0 4

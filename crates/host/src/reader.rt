@@ -2,7 +2,7 @@
 ghost use mathlib.Core.Path.{_≡_};
 ghost use Prim.Native.Nat.{_+_, _≤_};
 ghost use lib.ListN.{length};
-ghost use Rattle.host.specs.Reads.{textPlace, readLine};
+ghost use Rattle.host.specs.Reads.{textPlace, readLine, numberOfRead, numberOfLine};
 ghost use Rattle.line.specs.Judging.{beforeSpace};
 use crate::frame::is_ended;
 use crate::frame::is_framed;
@@ -69,6 +69,7 @@ fn read_plain(line: &[u8], name: usize) -> Read
 
 pub fn read_line(line: &[u8]) -> Read
     ensures { λ r. ⌜ r ≡ readLine (now (line .entry)) ⌝ }
+    ensures { λ r. ⌜ numberOfRead r ≡ numberOfLine (now (line .entry)) ⌝ }
 {
     if LONGEST < line.len() {
         return Read::Refused;

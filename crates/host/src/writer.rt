@@ -1,6 +1,5 @@
 // Writes the line of an answer.
-ghost use mathlib.Core.Path.{_≡_};
-ghost use Rattle.host.specs.Writes.{writtenLine, writtenBuffer};
+ghost use Rattle.host.specs.Writes.{WritesLine};
 use answer::Answer;
 use emit::emit_answer;
 use forms::can_form;
@@ -20,8 +19,7 @@ pub struct Written {
 
 // The form is tested first: what cannot be formed has no length that the buffer could lack.
 pub fn write_line(answer: Answer, text: &[u8], out: &mut [u8]) -> Written
-    ensures { λ r. ⌜ r ≡ writtenLine answer (now (text .entry)) (now (out .entry)) ⌝ }
-    ensures { λ r. ⌜ now (out .exit) ≡ writtenBuffer answer (now (text .entry)) (now (out .entry)) ⌝ }
+    ensures { λ r. ⌜ WritesLine answer (now (text .entry)) (now (out .entry)) r (now (out .exit)) ⌝ }
 {
     if can_form(answer, text) {
         let emitted = emit_answer(answer, text, out);

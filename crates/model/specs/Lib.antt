@@ -1,2 +1,3 @@
 pub mod Profiles
+pub mod Refusals
 pub mod States

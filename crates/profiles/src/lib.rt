@@ -1,32 +1,38 @@
 // Document 01's profile A, which the programs share.
+ghost use mathlib.Core.Path.{_≡_};
+ghost use Rattle.profiles.specs.ProfileA.{noText40, noText20, serialA, profileA};
 use model::Profile;
 use model::Text20;
 use model::Text40;
 use weight::Resolution;
 use weight::WeightUnit;
 
-fn no_text() -> Text40 {
-    Text40 {
-        bytes: [0; 40],
-        len: 0,
-    }
+fn no_text() -> Text40
+    ensures { λ r. ⌜ r ≡ noText40 ⌝ }
+{
+    let bytes = [0u8; 40];
+    Text40 { bytes, len: 0 }
 }
 
-fn short_text() -> Text20 {
-    Text20 {
-        bytes: [0; 20],
-        len: 0,
-    }
+fn short_text() -> Text20
+    ensures { λ r. ⌜ r ≡ noText20 ⌝ }
+{
+    let bytes = [0u8; 20];
+    Text20 { bytes, len: 0 }
 }
 
-fn serial() -> Text20 {
+fn serial() -> Text20
+    ensures { λ r. ⌜ r ≡ serialA ⌝ }
+{
     Text20 {
         bytes: *b"VA-0001             ",
         len: 7,
     }
 }
 
-pub fn profile_a() -> Profile {
+pub fn profile_a() -> Profile
+    ensures { λ r. ⌜ r ≡ profileA ⌝ }
+{
     Profile {
         capacity: 220_000_000,
         underload: 1_000_000,

@@ -1,12 +1,12 @@
 -- `host::reader::read_line` meets its contract.
 -- Assumes nothing.
 use borrow.Author.Needs.{needs}
-use Rattle.host.proofs.Outcomes.{too-long, read-branch, unformed-branch, unframed-branch}
+use Rattle.host.proofs.Outcomes.{numbered-read, too-long, read-branch, unformed-branch, unframed-branch}
 use Rattle.host.proofs.reader.read_line.Statement.{statement}
 use Rattle.host.proofs.reader.read_line.Tie as tie
 
 returns : tie.Need-returns
-returns c = search (needs, too-long)
+returns c = numbered-read _ _ (search (needs, too-long))
 
 name-length-requires : tie.Need-name-length-requires
 name-length-requires c κs = search needs
@@ -18,7 +18,7 @@ read-plain-requires : tie.Need-read-plain-requires
 read-plain-requires c κs = search needs
 
 returns-2 : tie.Need-returns-2
-returns-2 c = search needs
+returns-2 c = numbered-read _ _ (search needs)
 
 guess-answer-requires : tie.Need-guess-answer-requires
 guess-answer-requires c κs = search needs
@@ -36,13 +36,13 @@ can-form-requires : tie.Need-can-form-requires
 can-form-requires c κs = search needs
 
 returns-3 : tie.Need-returns-3
-returns-3 c = search (needs, read-branch)
+returns-3 c = numbered-read _ _ (search (needs, read-branch))
 
 returns-4 : tie.Need-returns-4
-returns-4 c = search (needs, unformed-branch)
+returns-4 c = numbered-read _ _ (search (needs, unformed-branch))
 
 returns-5 : tie.Need-returns-5
-returns-5 c = search (needs, unframed-branch)
+returns-5 c = numbered-read _ _ (search (needs, unframed-branch))
 
 pub read-line-spec : {M : Type 1} → statement M
 read-line-spec =

@@ -1,5 +1,11 @@
 // The line that `state` prints: what the module holds and no answer shows. One function a word of it.
+ghost use mathlib.Core.Path.{_≡_};
+ghost use mathlib.Core.List.{_++_};
+ghost use Rattle.told.specs.Laying.{Laid, laidOver, laidCount};
+ghost use Rattle.told.specs.StateLines.{zeroWord, tareWord, sampleWord, waitsWord, repeatsWord, showsWord, lineWord, stateLine};
+ghost use Rattle.weight.specs.Field.{digitsOf};
 use crate::words::put;
+use crate::words::put_if;
 use crate::words::put_load;
 use crate::words::put_number;
 use line::Line;
@@ -12,31 +18,39 @@ use text::part;
 use weight::Load;
 use weight::Tare;
 
-fn put_zero(line: &mut [u8], at: usize, zero: Load) -> usize {
+fn put_zero(line: &mut [u8], at: usize, zero: Load) -> usize
+    ensures { λ r. ⌜ Laid (now (line .entry)) at (zeroWord zero) (now (line .exit)) r ⌝ }
+{
     let next = put(line, at, b" zero ");
     put_load(line, next, zero)
 }
 
-fn put_tare(line: &mut [u8], at: usize, tare: Tare) -> usize {
+fn put_tare(line: &mut [u8], at: usize, tare: Tare) -> usize
+    ensures { λ r. ⌜ Laid (now (line .entry)) at (tareWord tare) (now (line .exit)) r ⌝ }
+{
     let next = put(line, at, b" tare ");
     put_number(line, next, tare.0 as u64)
 }
 
 // `s` or `u` and the load, as in the script.
-fn put_sample(line: &mut [u8], at: usize, weighing: Weighing) -> usize {
+fn put_sample(line: &mut [u8], at: usize, weighing: Weighing) -> usize
+    ensures { λ r. ⌜ Laid (now (line .entry)) at (sampleWord weighing) (now (line .exit)) r ⌝ }
+{
     let load = weighing.load;
-    if !weighing.sampled {
-        return put(line, at, b" sample none");
-    }
-    if weighing.stable {
-        let next = put(line, at, b" sample s ");
+    if weighing.sampled {
+        if weighing.stable {
+            let next = put(line, at, b" sample s ");
+            return put_load(line, next, load);
+        }
+        let next = put(line, at, b" sample u ");
         return put_load(line, next, load);
     }
-    let next = put(line, at, b" sample u ");
-    put_load(line, next, load)
+    put(line, at, b" sample none")
 }
 
-fn put_waiting(line: &mut [u8], at: usize, waiting: Waiting) -> usize {
+fn put_waiting(line: &mut [u8], at: usize, waiting: Waiting) -> usize
+    ensures { λ r. ⌜ Laid (now (line .entry)) at (waitsWord waiting) (now (line .exit)) r ⌝ }
+{
     let pending = waiting.pending;
     let unstable = waiting.unstable as u64;
     let next = put(line, at, b" waits ");
@@ -48,37 +62,38 @@ fn put_waiting(line: &mut [u8], at: usize, waiting: Waiting) -> usize {
     }
 }
 
-fn put_waiting_for(line: &mut [u8], at: usize, command: &[u8], unstable: u64) -> usize {
+fn put_waiting_for(line: &mut [u8], at: usize, command: &[u8], unstable: u64) -> usize
+    ensures { λ r. ⌜ Laid (now (line .entry)) at (now (command .entry) ++ digitsOf unstable) (now (line .exit)) r ⌝ }
+{
     let next = put(line, at, command);
     put_number(line, next, unstable)
 }
 
-fn put_repeating(line: &mut [u8], at: usize, repeating: bool) -> usize {
+fn put_repeating(line: &mut [u8], at: usize, repeating: bool) -> usize
+    ensures { λ r. ⌜ Laid (now (line .entry)) at (repeatsWord repeating) (now (line .exit)) r ⌝ }
+{
     if repeating {
         return put(line, at, b" repeats SIR");
     }
     put(line, at, b" repeats no")
 }
 
-fn put_display(line: &mut [u8], at: usize, display: Display) -> usize {
-    if !display.shown {
-        return put(line, at, b" shows weight");
+fn put_display(line: &mut [u8], at: usize, display: Display) -> usize
+    ensures { λ r. ⌜ Laid (now (line .entry)) at (showsWord display) (now (line .exit)) r ⌝ }
+{
+    if display.shown {
+        let bytes = display.text.bytes;
+        let text = put(line, at, b" shows \"");
+        let quote = put(line, text, part(&bytes, 0, display.text.len as usize));
+        return put(line, quote, b"\"");
     }
-    let bytes = display.text.bytes;
-    let text = put(line, at, b" shows \"");
-    let quote = put(line, text, part(&bytes, 0, display.text.len as usize));
-    put(line, quote, b"\"")
-}
-
-fn put_if(line: &mut [u8], at: usize, holds: bool, word: &[u8]) -> usize {
-    if holds {
-        return put(line, at, word);
-    }
-    at
+    put(line, at, b" shows weight")
 }
 
 // A CR that is kept apart is not counted.
-fn put_line(line: &mut [u8], at: usize, received: Line) -> usize {
+fn put_line(line: &mut [u8], at: usize, received: Line) -> usize
+    ensures { λ r. ⌜ Laid (now (line .entry)) at (lineWord received) (now (line .exit)) r ⌝ }
+{
     let count = put(line, at, b" line ");
     let over = put_number(line, count, received.len as u64);
     let faulty = put_if(line, over, received.over, b" over");
@@ -87,7 +102,10 @@ fn put_line(line: &mut [u8], at: usize, received: Line) -> usize {
 }
 
 // The line of a state, as far as there are places: the longest has 145 bytes. Answers how many it has.
-pub fn put_state(state: State, line: &mut [u8]) -> usize {
+pub fn put_state(state: State, line: &mut [u8]) -> usize
+    ensures { λ r. ⌜ r ≡ laidCount (stateLine state) (now (line .entry)) ⌝ }
+    ensures { λ r. ⌜ now (line .exit) ≡ laidOver (stateLine state) (now (line .entry)) ⌝ }
+{
     let weighing = state.weighing;
     let zero = weighing.zero;
     let tare = weighing.tare;

@@ -1,11 +1,17 @@
-// Texts and numbers laid into a line, one after another. Each function takes the place to start at and answers the place after.
-use weight::LastPlaces;
+// Texts and numbers laid into a line, one after another, as far as there are places. Each function takes the place to start at and
+// answers the place after.
+ghost use mathlib.Core.List.{[], _∷_};
+ghost use Rattle.told.specs.Laying.{Laid};
+ghost use Rattle.told.specs.StateLines.{loadText, onlyIf};
+ghost use Rattle.weight.specs.Field.{digitsOf};
 use weight::Load;
 use weight::from_load;
-use weight::is_below_zero;
-use weight::size_of_number;
+use weight::is_under;
+use weight::size_of;
 
-fn put_byte(line: &mut [u8], at: usize, byte: u8) -> usize {
+fn put_byte(line: &mut [u8], at: usize, byte: u8) -> usize
+    ensures { λ r. ⌜ Laid (now (line .entry)) at (byte ∷ []) (now (line .exit)) r ⌝ }
+{
     if at < line.len() {
         line[at] = byte;
         return at + 1;
@@ -13,8 +19,9 @@ fn put_byte(line: &mut [u8], at: usize, byte: u8) -> usize {
     at
 }
 
-// Every byte of a text, as far as there are places.
-pub fn put(line: &mut [u8], at: usize, text: &[u8]) -> usize {
+pub fn put(line: &mut [u8], at: usize, text: &[u8]) -> usize
+    ensures { λ r. ⌜ Laid (now (line .entry)) at (now (text .entry)) (now (line .exit)) r ⌝ }
+{
     let mut next = at;
     let mut i = 0;
     while i < text.len() {
@@ -24,18 +31,33 @@ pub fn put(line: &mut [u8], at: usize, text: &[u8]) -> usize {
     next
 }
 
-pub fn put_number(line: &mut [u8], at: usize, n: u64) -> usize {
-    let mut digits = [0u8; 20];
-    let count = io::decimal(n, &mut digits);
-    put(line, at, &digits[..count])
+pub fn put_if(line: &mut [u8], at: usize, holds: bool, word: &[u8]) -> usize
+    ensures { λ r. ⌜ Laid (now (line .entry)) at (onlyIf holds (now (word .entry))) (now (line .exit)) r ⌝ }
+{
+    if holds {
+        return put(line, at, word);
+    }
+    at
 }
 
-// Printed whole: its last place is a microgram.
-pub fn put_load(line: &mut [u8], at: usize, load: Load) -> usize {
+// The digits before the last one first.
+pub fn put_number(line: &mut [u8], at: usize, n: u64) -> usize
+    ensures { λ r. ⌜ Laid (now (line .entry)) at (digitsOf n) (now (line .exit)) r ⌝ }
+{
+    let last = b'0' + (n % 10) as u8;
+    if n < 10 {
+        return put_byte(line, at, last);
+    }
+    let next = put_number(line, at, n / 10);
+    put_byte(line, next, last)
+}
+
+pub fn put_load(line: &mut [u8], at: usize, load: Load) -> usize
+    ensures { λ r. ⌜ Laid (now (line .entry)) at (loadText load) (now (line .exit)) r ⌝ }
+{
     let amount = from_load(load);
-    let places = LastPlaces(amount.0);
-    let size = size_of_number(places);
-    if is_below_zero(places) {
+    let size = size_of(amount);
+    if is_under(amount, 0) {
         let next = put(line, at, b"-");
         return put_number(line, next, size);
     }

@@ -33,6 +33,7 @@ pub use rounding::LastPlaces;
 pub use rounding::Micrograms;
 pub use rounding::Resolution;
 pub use rounding::is_allowed;
+pub use rounding::size_of;
 pub use typed::Tare;
 pub use typed::Typed;
 pub use typed::typed_amount;

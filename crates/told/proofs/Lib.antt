@@ -1,0 +1,3 @@
+mod Laying
+mod Numbers
+mod StateLines

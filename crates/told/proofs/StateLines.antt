@@ -1,0 +1,58 @@
+-- The words of a state's line by the pieces that the code lays.
+-- Assumes nothing.
+use mathlib.Core.Path.{_≡_}
+use mathlib.Core.Bool.{Bool, true, false}
+use mathlib.Core.List.{List}
+use Prim.Native.Nat.{ℕ}
+use lib.ListN.{take, drop}
+use Rattle.model.specs.declared.state.Display.{Display}
+use Rattle.model.specs.declared.state.Pending.{Pending}
+use Rattle.model.specs.declared.state.Waiting.{Waiting}
+use Rattle.model.specs.declared.weighing.Weighing.{Weighing}
+use Rattle.text.specs.Ascii.{ascii}
+use Rattle.told.specs.Laying.{Laid}
+use Rattle.told.specs.StateLines.{loadText, sampleWord, waitsFor, waitsWord, repeatsWord, showsWord}
+use Rattle.told.proofs.Laying.{laid-as, _then_}
+
+-- ---- the sample
+
+pub laid-none : {d e : List ℕ} {a b : ℕ} (w : Weighing) → w .sampled ≡ false → Laid d a (ascii " sample none") e b → Laid d a (sampleWord w) e b
+unfolding sampleWord
+laid-none w n l = laid-as (rw n) l
+
+module _ {d e f : List ℕ} {a b c : ℕ} (w : Weighing) (s : w .sampled ≡ true) where
+  pub laid-stable : w .stable ≡ true → Laid d a (ascii " sample s ") e b → Laid e b (loadText (w .load)) f c → Laid d a (sampleWord w) f c
+  unfolding sampleWord
+  laid-stable t l k = laid-as (rw (s, t)) (l then k)
+
+  pub laid-unstable : w .stable ≡ false → Laid d a (ascii " sample u ") e b → Laid e b (loadText (w .load)) f c → Laid d a (sampleWord w) f c
+  unfolding sampleWord
+  laid-unstable t l k = laid-as (rw (s, t)) (l then k)
+
+-- ---- what waits
+
+pub laid-waits : {d e f : List ℕ} {a b c : ℕ} (w : Waiting) (p : Pending) → w .pending ≡ p → Laid d a (ascii " waits ") e b
+    → Laid e b (waitsFor p (w .unstable)) f c → Laid d a (waitsWord w) f c
+unfolding waitsWord
+laid-waits w p is l k = laid-as (rw is) (l then k)
+
+-- ---- what repeats
+
+pub laid-repeats : {d e : List ℕ} {a b : ℕ} (r : Bool) → r ≡ true → Laid d a (ascii " repeats SIR") e b → Laid d a (repeatsWord r) e b
+unfolding repeatsWord
+laid-repeats r t l = laid-as (rw t) l
+
+pub laid-no-repeats : {d e : List ℕ} {a b : ℕ} (r : Bool) → r ≡ false → Laid d a (ascii " repeats no") e b → Laid d a (repeatsWord r) e b
+unfolding repeatsWord
+laid-no-repeats r f l = laid-as (rw f) l
+
+-- ---- what is shown
+
+pub laid-weight : {d e : List ℕ} {a b : ℕ} (x : Display) → x .shown ≡ false → Laid d a (ascii " shows weight") e b → Laid d a (showsWord x) e b
+unfolding showsWord
+laid-weight x n l = laid-as (rw n) l
+
+pub laid-text : {d e f g t : List ℕ} {a b c k : ℕ} (x : Display) → x .shown ≡ true → t ≡ take (x .text .len) (drop 0 (x .text .bytes))
+    → Laid d a (ascii " shows \"") e b → Laid e b t f c → Laid f c (ascii "\"") g k → Laid d a (showsWord x) g k
+unfolding showsWord
+laid-text x s same l m n = laid-as (rw s) (l then laid-as same m then n)

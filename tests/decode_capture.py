@@ -1,59 +1,310 @@
-"""The stored input of crates/decode: every form of answer line, forms damaged by one byte, and what the manuals print.
+"""The stored input of crates/decode: every form of answer line, forms damaged by one byte, and
+what the manuals print.
 
     python3 tests/decode_capture.py > crates/decode/stdin
+
+The functions stand in the order of document 01; `CAPTURE`, at the end, is the order in which they
+write. docs/MANUAL-LINES.md says why the reader refuses some of the manuals' lines.
 """
 import sys
 
-NAMES = [(n, 0) for n in "I0 I1 I2 I3 I4 I5 S SI SIR Z ZI @".split()] + [(n, 1) for n in "D DW T TA TAC TI".split()]
+# ---- the pieces of a capture
+
+capture = []
+
+
+def raw(*pieces):
+    capture.extend(pieces)
+
+
+def lines(*answers):
+    for answer in answers:
+        raw(answer + "\r\n")
+
+
+def weight(head, number, unit="g"):
+    """The number right aligned in ten characters."""
+    return f"{head} {number:>10} {unit}"
+
+
+# ---- "Commands carried"
+
+LEVEL_0 = "I0 I1 I2 I3 I4 I5 S SI SIR Z ZI @".split()
+LEVEL_1 = "D DW T TA TAC TI".split()
+LEVELS = {**dict.fromkeys(LEVEL_0, 0), **dict.fromkeys(LEVEL_1, 1)}
+
+# ---- "The profile"
+
 UNITS = "g mg ct oz ozt GN dwt".split()
-E = "\r\n"
-out = []
-def w(*lines): out.extend(l + E for l in lines)
-def raw(*pieces): out.extend(pieces)
-def weight(head, number, unit): return "%s %10s %s" % (head, number, unit)
-HEADS = ["S S", "S D", "T S", "TI S", "TI D", "TA A"]
-# what the manuals print for these commands: 003
-w(weight("S S", "0.256", "g"), weight("S S", "4875.2", "g"), "S S    4875.2 g", "S S    4875.2  g", "D A", "ES", "ET", "EL")
-w('I0 B 0 "I0"', 'I0 B 0 "I1"', 'I0 B 0 "S"', 'I0 B 0 "Z"', 'I0 B 0 "@"', 'I0 B 1 "D"', 'I0 B 1 "DW"', 'I0 A 3 "I12"', 'IO B 0 "IO"', 'I0 A 3 I12', "I0 I")
-w('I1 A "01" "2.00" "2.00" "" ""', 'I1 A "0" "2.30" "2.20"', "I1 I", 'I2 A "PR5002DR R-Standard 5100.90 g"', 'I2 A "AX204-Standard 220.0090 g"', "I2 I")
-w('I3 A "1.05 1.1.1.17.7"', "I3 I", 'I4 A "0123456789"', "I4 I", 'I5 A "12345678A"', "I5 I")
-w(weight("S S", "100.00", "g"), "S I", "S +", "S -", weight("S D", "129.07", "g"), "S D 129.07 g", weight("S D", "129.08", "g"), weight("S S", "129.09", "g"), weight("S S", "129.09", "g"), weight("S D", "114.87", "g"))
-w("Z A", "Z I", "Z +", "Z -", "ZI D", "ZI S", "ZI I", "ZI +", "ZI -", 'I4 A "1114350697"', "D A", "D R", "D I", "D L", "DW A", "DW I")
-w(weight("T S", "100.00", "g"), "T I", "T +", "T -", weight("TA A", "100.00", "g"), "TA A 100.00 g", "TA I", "TA L", "TAC A", "TAC I", weight("TI D", "117.57", "g"), "TI I", "TI L", "TI +", "TI -")
-w('I2 A "AX204 R Standard 220.0000 g"', "K A", "K C 5", weight("T S", "70.0000", "g"), "T S . . . . . 70.0000 g", weight("S S", "12.34", "lb"))
-# 000 and 004
-w(weight("S S", "14.256", "g"), "S S  Error 10b", "S S   Error 1t", 'I4 A "B021002593"', weight("S S", "152.38", "g"), "S D   1234.563 g 23", 'I4 A "B123456789"')
-w('I1 A "0123" "2.00" "2.20" "1.00" "1.50"', 'I2 A "WMS404C-L WMS-Bridge 410.0090 g"', 'I3 A "4.10 10.28.0.493.142"', 'I5 A "12121306C"', weight("S D", "103.04", "g"), weight("S D", "123.34", "mg"), weight("S S", "12.34", "g"), weight("S S", "67.89", "g"))
-w(weight("S D", "115.23", "g"), weight("S S", "200.00", "g"), weight("S S", "123.456", "g"), 'I4 A "1234567890"', "1 Z A", "- Z A", "? Z A", weight("1 S D", "129.0432", "g"), "BS S    100.000 g", "PWR A", weight("S S", "105.0000", "g"), weight("T S", "175.0000", "g"), "TA 70.0000 g", weight("TA A", "70.0000", "g"))
-# every form: each weight head with each unit and each count of decimals, and the numbers at the field's ends
-for head in HEADS:
-    for at, unit in enumerate(UNITS): w(weight(head, "%.*f" % (at, 8.0), unit))
-for number in ("0", "0.0", "0.000000", "-0.000001", "-0.1", "-1", "9999999999", "-999999999", "99999999.9", "999.999999", "-99.999999", "10", "100000"):
-    for head in HEADS: w(weight(head, number, "g"))
-for number in ("-0", "-0.0", "00", "01", "00.1", ".1", "1.", "-.1", "--1", "+1", "1.0000000", "0.0000001", "1,0", "1.0.0", "1 0", "- 1", "1-", "1.0 ", "0x1", "1e1", ""): w(weight("S S", number, "g"))
-for unit in ("G", "kg", "lb", "", " g", "g ", "mG", "gn", "Gn", "ctx", "o", "ozt ", "dwtt", "GNN"): w(weight("S S", "1.0", unit))
-w("S S      1.0000 g", "S S      1.000 g", "S S   1.000 g", "S  S     1.0000 g", " S S     1.0000 g", "S S     1.0000  g", "S S     1.0000g", "S S     1.0000")
-for name, level in NAMES:
-    for status in "ABSDIL+-R": w("%s %s" % (name, status))
-    for status in "AB":
-        for at in (0, 1): w('I0 %s %d "%s"' % (status, at, name))
-    w(weight(name + " S", "1", "g"), '%s A "x"' % name, "%s A %d" % (name, level))
-w("S", "ZI", "I0", "E", "ES ", " ES", "es", "EX", "ESL", "@ A", "", " ", "  ", "I0 C 0 \"I0\"", "I0 A 0 \"i0\"", "I0 A 0 \"I\"", "I0 A 0 \"I00\"", "I0 A 0 \"\"", "I0 A 2 \"S\"", "I0 A  \"S\"", "I0 A 0 S", "I0 A 0 \"S", "I0 A 0 S\"", "I0 A 0 \"S\" ")
-for n, most in ((2, 40), (3, 40), (4, 20), (5, 20)):
-    for size in (0, 1, most - 1, most, most + 1): w('I%d A "%s"' % (n, ("0123456789" * 5)[:size]))
-    w('I%d A "a"b"' % n, 'I%d A """' % n, 'I%d A "' % n, 'I%d A ' % n, 'I%d A a' % n, 'I%d A "a" ' % n, 'I%d A  "a"' % n, 'I%d B "a"' % n, 'I%d A "  "' % n, 'I%d A "\x1f"' % n, 'I%d A " !#\x7f\x80\xff"' % n, 'I%d A "a\rb"' % n, 'I%d A "a\nb"' % n)
-# a line of each form with each byte changed, dropped and doubled; a good line after the places that end it
-for line in (weight("S S", "14.2561", "g"), weight("S D", "-0.000001", "ozt"), weight("T S", "1.5", "dwt"), weight("TI S", "100", "ct"), weight("TI D", "0.25", "mg"), weight("TA A", "0", "GN"), "Z A", "TAC A", "D A", "DW A", "ZI S", "ZI D", "S +", "TI -", "TA L", "I3 I", "ES", "ET", "EL", 'I0 B 0 "SIR"', 'I0 A 1 "TI"', 'I1 A "0" "2.30" "2.20"', 'I2 A "two words"', 'I5 A ""'):
-    whole = line + E
-    raw(whole)
-    for at in range(len(whole)):
-        changed = {"\r": "\n", "\n": "\r", " ": "_"}.get(whole[at], chr(ord(whole[at]) ^ 1))
-        raw(whole[:at] + changed + whole[at + 1:], whole[:at] + whole[at + 1:], whole[:at] + whole[at] + whole[at:])
-        if at >= len(line): raw("DW A" + E)
-# CR and LF alone, and pieces longer than any answer
-raw("Z A\nZ A\r\n", "Z A\rZ A\r\n", "\nZ A\r\n", "\rZ A\r\n", "Z A\r\r\n", "Z A\n\r\n", "\r\n\r\n", "\r\r\n", "\n\n\r\n")
-for size in (47, 48, 49, 60, 61, 62, 63, 64, 65, 126, 127, 128, 200, 5000): w("x" * size, "I2 A \"" + "y" * size + "\"", "DW A")
-raw("z" * 62 + "\r", "z\r\n", "z" * 61 + "\r\n", "z" * 62 + "\r\n", "z" * 63 + "\r\n", "TAC A\r\n")
-# the last piece is not finished
-raw("TAC A\r")
-sys.stdout.buffer.write("".join(out).encode("latin-1"))
+TEXT_LENGTHS = {"I2": 40, "I3": 40, "I4": 20, "I5": 20}
+
+
+def texts():
+    for name, most in TEXT_LENGTHS.items():
+        # The lengths: none, one, the most and its neighbours.
+        for size in (0, 1, most - 1, most, most + 1):
+            lines(f'{name} A "{("0123456789" * 5)[:size]}"')
+        # A quote in the text, and quotes that are missing.
+        lines(f'{name} A "a"b"', f'{name} A """', f'{name} A "', f"{name} A ", f"{name} A a")
+        # Something after the quotes, a space too many before them, another status.
+        lines(f'{name} A "a" ', f'{name} A  "a"', f'{name} B "a"')
+        # The bytes: 32 alone, 31, those at the ends of the range, CR and LF.
+        lines(f'{name} A "  "', f'{name} A "\x1f"', f'{name} A " !#\x7f\x80\xff"')
+        lines(f'{name} A "a\rb"', f'{name} A "a\nb"')
+
+
+# ---- "Weights"
+
+WEIGHT_HEADS = ["S S", "S D", "T S", "TI S", "TI D", "TA A"]
+
+
+def weights_by_unit():
+    # Every head with every unit; the units have 0 to 6 decimals in turn.
+    for head in WEIGHT_HEADS:
+        for decimals, unit in enumerate(UNITS):
+            lines(weight(head, f"{8:.{decimals}f}", unit))
+
+
+GOOD_NUMBERS = [
+    # Zero, without a minus.
+    "0", "0.0", "0.000000",
+    # Below zero: good after S S and S D alone.
+    "-0.000001", "-0.1", "-1",
+    # Ten characters.
+    "9999999999", "-999999999", "99999999.9", "999.999999", "-99.999999",
+    # Zeros that are not leading ones.
+    "10", "100000",
+]
+BAD_NUMBERS = [
+    # A minus before zero.
+    "-0", "-0.0",
+    # Leading zeros.
+    "00", "01", "00.1",
+    # A point without digits on both sides.
+    ".1", "1.", "-.1",
+    # Signs.
+    "--1", "+1",
+    # Seven decimals.
+    "1.0000000", "0.0000001",
+    # Other characters, or good ones in the wrong place.
+    "1,0", "1.0.0", "1 0", "- 1", "1-", "1.0 ", "0x1", "1e1",
+    # Ten spaces.
+    "",
+]
+BAD_UNITS = [
+    # None of the seven, none at all, and with a space.
+    "G", "kg", "lb", "", " g", "g ",
+    # In the other case.
+    "mG", "gn", "Gn",
+    # A character more or less.
+    "ctx", "o", "ozt ", "dwtt", "GNN",
+]
+
+
+def numbers():
+    for number in GOOD_NUMBERS:
+        for head in WEIGHT_HEADS:
+            lines(weight(head, number))
+    for number in BAD_NUMBERS:
+        lines(weight("S S", number))
+
+
+def bad_units():
+    for unit in BAD_UNITS:
+        lines(weight("S S", "1.0", unit))
+
+
+def weight_spaces():
+    # The number in eleven, ten and seven characters.
+    lines("S S      1.0000 g", "S S      1.000 g", "S S   1.000 g")
+    # A space too many before the status, the identification and the unit.
+    lines("S  S     1.0000 g", " S S     1.0000 g", "S S     1.0000  g")
+    # No space before the unit, and no unit.
+    lines("S S     1.0000g", "S S     1.0000")
+
+
+# ---- "Receiving": the ends of lines
+
+
+def odd_line_ends():
+    # LF alone and CR alone, between two answers and before one.
+    raw("Z A\nZ A\r\n", "Z A\rZ A\r\n", "\nZ A\r\n", "\rZ A\r\n")
+    # A CR or an LF more before the end.
+    raw("Z A\r\r\n", "Z A\n\r\n")
+    # No answer at all.
+    raw("\r\n\r\n", "\r\r\n", "\n\n\r\n")
+
+
+def long_pieces():
+    # Lengths about the longest answer, 64 and 128; a good line after each.
+    for size in (47, 48, 49, 60, 61, 62, 63, 64, 65, 126, 127, 128, 200, 5000):
+        lines("x" * size, 'I2 A "' + "y" * size + '"', "DW A")
+    # A CR that ends nothing in the 63rd place, then 63, 64 and 65 bytes with CR LF.
+    raw("z" * 62 + "\r", "z\r\n")
+    lines("z" * 61, "z" * 62, "z" * 63)
+    lines("TAC A")
+
+
+def unfinished():
+    # The last piece has no LF.
+    raw("TAC A\r")
+
+
+# ---- "Refusal numbers": the lines of the reader
+
+STATUSES = "ABSDIL+-R"
+
+
+def names_and_statuses():
+    for name, level in LEVELS.items():
+        # Each status alone.
+        for status in STATUSES:
+            lines(f"{name} {status}")
+        # The name in I0's lines, at its own level and at the other.
+        for status in "AB":
+            for listed in (0, 1):
+                lines(f'I0 {status} {listed} "{name}"')
+        # The name with a weight, with a text and with a number.
+        lines(weight(name + " S", "1"), f'{name} A "x"', f"{name} A {level}")
+
+
+def short_lines():
+    # Names alone.
+    lines("S", "ZI", "I0")
+    # The errors with a character more or less, and others.
+    lines("E", "ES ", " ES", "es", "EX", "ESL")
+    # @ has no answer of its own; empty lines are none.
+    lines("@ A", "", " ", "  ")
+
+
+def bad_listings():
+    # Status, name and level of I0's lines.
+    lines('I0 C 0 "I0"')
+    lines('I0 A 0 "i0"', 'I0 A 0 "I"', 'I0 A 0 "I00"', 'I0 A 0 ""')
+    lines('I0 A 2 "S"', 'I0 A  "S"')
+    # Their quotes, and a space after them.
+    lines("I0 A 0 S", 'I0 A 0 "S', 'I0 A 0 S"', 'I0 A 0 "S" ')
+
+
+# A line of each form.
+FORMS = [
+    weight("S S", "14.2561"),
+    weight("S D", "-0.000001", "ozt"),
+    weight("T S", "1.5", "dwt"),
+    weight("TI S", "100", "ct"),
+    weight("TI D", "0.25", "mg"),
+    weight("TA A", "0", "GN"),
+    "Z A", "TAC A", "D A", "DW A",
+    "ZI S", "ZI D",
+    "S +", "TI -", "TA L", "I3 I",
+    "ES", "ET", "EL",
+    'I0 B 0 "SIR"', 'I0 A 1 "TI"',
+    'I1 A "0" "2.30" "2.20"',
+    'I2 A "two words"', 'I5 A ""',
+]
+
+
+def other_byte(byte):
+    return {"\r": "\n", "\n": "\r", " ": "_"}.get(byte, chr(ord(byte) ^ 1))
+
+
+def damaged_forms():
+    for form in FORMS:
+        line = form + "\r\n"
+        raw(line)
+        for at, byte in enumerate(line):
+            before, after = line[:at], line[at + 1:]
+            # Changed, dropped and doubled.
+            raw(before + other_byte(byte) + after, before + after, before + byte + byte + after)
+            # A good line after a damaged end.
+            if at >= len(form):
+                lines("DW A")
+
+
+# ---- "Proof each function owes": what the manuals print
+
+
+def manual_003():
+    # Weights, also in its own spacing, and the errors.
+    lines(weight("S S", "0.256"), weight("S S", "4875.2"))
+    lines("S S    4875.2 g", "S S    4875.2  g")
+    lines("D A", "ES", "ET", "EL")
+    # I0, with level 3, a letter O for the zero, and no quotes.
+    lines('I0 B 0 "I0"', 'I0 B 0 "I1"', 'I0 B 0 "S"', 'I0 B 0 "Z"', 'I0 B 0 "@"')
+    lines('I0 B 1 "D"', 'I0 B 1 "DW"')
+    lines('I0 A 3 "I12"', 'IO B 0 "IO"', "I0 A 3 I12", "I0 I")
+    # I1 to I5.
+    lines('I1 A "01" "2.00" "2.00" "" ""', 'I1 A "0" "2.30" "2.20"', "I1 I")
+    lines('I2 A "PR5002DR R-Standard 5100.90 g"', 'I2 A "AX204-Standard 220.0090 g"', "I2 I")
+    lines('I3 A "1.05 1.1.1.17.7"', "I3 I")
+    lines('I4 A "0123456789"', "I4 I")
+    lines('I5 A "12345678A"', "I5 I")
+    # S, SI and SIR.
+    lines(weight("S S", "100.00"), "S I", "S +", "S -")
+    lines(weight("S D", "129.07"), "S D 129.07 g")
+    lines(weight("S D", "129.08"), weight("S S", "129.09"), weight("S S", "129.09"))
+    lines(weight("S D", "114.87"))
+    # Z, ZI and @.
+    lines("Z A", "Z I", "Z +", "Z -")
+    lines("ZI D", "ZI S", "ZI I", "ZI +", "ZI -")
+    lines('I4 A "1114350697"')
+    # D and DW.
+    lines("D A", "D R", "D I", "D L")
+    lines("DW A", "DW I")
+    # T, TA, TAC and TI.
+    lines(weight("T S", "100.00"), "T I", "T +", "T -")
+    lines(weight("TA A", "100.00"), "TA A 100.00 g", "TA I", "TA L")
+    lines("TAC A", "TAC I")
+    lines(weight("TI D", "117.57"), "TI I", "TI L", "TI +", "TI -")
+    # Others, with a command and a unit that are not carried.
+    lines('I2 A "AX204 R Standard 220.0000 g"', "K A", "K C 5")
+    lines(weight("T S", "70.0000"), "T S . . . . . 70.0000 g", weight("S S", "12.34", "lb"))
+
+
+def manuals_000_and_004():
+    # Weights and serial numbers, with fault lines and something after the unit.
+    lines(weight("S S", "14.256"), "S S  Error 10b", "S S   Error 1t", 'I4 A "B021002593"')
+    lines(weight("S S", "152.38"), "S D   1234.563 g 23", 'I4 A "B123456789"')
+    # I1, I2, I3 and I5.
+    lines('I1 A "0123" "2.00" "2.20" "1.00" "1.50"', 'I2 A "WMS404C-L WMS-Bridge 410.0090 g"')
+    lines('I3 A "4.10 10.28.0.493.142"', 'I5 A "12121306C"')
+    # Weights.
+    lines(weight("S D", "103.04"), weight("S D", "123.34", "mg"))
+    lines(weight("S S", "12.34"), weight("S S", "67.89"))
+    lines(weight("S D", "115.23"), weight("S S", "200.00"), weight("S S", "123.456"))
+    lines('I4 A "1234567890"')
+    # A prefix before the identification, and a command that is not carried.
+    lines("1 Z A", "- Z A", "? Z A", weight("1 S D", "129.0432"), "BS S    100.000 g", "PWR A")
+    # A weighing with a tare; TA without a status.
+    lines(weight("S S", "105.0000"), weight("T S", "175.0000"))
+    lines("TA 70.0000 g", weight("TA A", "70.0000"))
+
+
+# ---- the capture
+
+CAPTURE = [
+    manual_003,
+    manuals_000_and_004,
+    weights_by_unit,
+    numbers,
+    bad_units,
+    weight_spaces,
+    names_and_statuses,
+    short_lines,
+    bad_listings,
+    texts,
+    damaged_forms,
+    odd_line_ends,
+    long_pieces,
+    unfinished,
+]
+
+
+def main():
+    for write_part in CAPTURE:
+        write_part()
+    sys.stdout.buffer.write("".join(capture).encode("latin-1"))
+
+
+if __name__ == "__main__":
+    main()

@@ -1,278 +1,924 @@
 """The stored script of crates/replay: every rule of document 01 once.
 
     python3 tests/replay_script.py > crates/replay/stdin
+
+The functions stand in the order of document 01, one for each part of the script; `SCRIPT`, at the
+end, is the order in which they are played. The comment that heads a part of the script is the
+first line of its function. A part with no power-on goes on from the state of the part before it.
 """
 import sys
 
-A = "profile 220000000 1000000 4400000 3 g 4 1"
-NAMES = "I0 I1 I2 I3 I4 I5 S SI SIR Z ZI @ D DW T TA TAC TI".split()
-out = []
-def w(*lines):
+# ---- the lines of a script
+
+script = []
+
+
+def play(*lines):
+    script.extend(lines)
+
+
+def watch(*lines):
+    """Each line, and the state that it leaves."""
     for line in lines:
-        out.append(line.encode('latin-1') if isinstance(line, str) else line)
-def seen(*lines):
-    """Each line, and what state it leaves."""
-    for line in lines:
-        w(line, "state")
-def part(*comment):
+        play(line, "state")
+
+
+def part(comment):
     """The part before ends with the state that it leaves."""
-    w("state", "")
-    for c in comment:
-        w("# " + c)
-def start(profile=A, *more):
-    w(profile, *more, "on")
-def hexed(text): return " ".join("%02X" % b for b in text.encode('latin-1'))
+    play("state", "", "# " + comment)
 
-w("# Plays every rule of document 01 once. Its stdout is what the independent implementation prints for it.",
-  "# Profile A stands at the start: C 220 g, U 1 g, R 4.4 g, W 3, g, 4 decimals, step 1, I4 VA-0001, the other texts empty.")
 
-part("Before a power-on is granted every call and `state` is `?`, and a refused one leaves it so.")
-seen("> S", "> ", "b 53", "f 53", "s 1", "u 1")
-seen("room 15", "on", "> S", "room 16", "on", "> S", "@ on", "room 256")
+def in_hex(chars):
+    return " ".join(f"{byte:02X}" for byte in chars.encode("latin-1"))
 
-part("Document 01's conversation.")
-start()
-w("> S", "s 14256050", "> T", "s 14256100", "> SI", "> Q")
 
-part("Lines that are none of the script's: each is one `?` and calls nothing.")
-w("state ", " state", "State", "STATE", "state x", "state 1", "states", "stat", "state\r", "state\t", "# state")
-w("on ", " on", "ON", "of", "b", "f", ">", "s", "u", "b ", "f ", "s ", "u ", "text", "room", "profile")
-w("b 5", "b 530", "b 53 ", "b  53", "b 53  0D", "b 5G", "b 53 0D 0", "b 44 57 0D 0A x", "f 53,0D", "b 53\r",
-  "s +1", "s 1 ", "s  1", "s --1", "s -", "s 1.0", "s 12345678901", "s 2147483648", "s -2147483649", "s 9999999999", "u 0x10", "s 1\r",
-  "room", "room ", "room -1", "room 1025", "room 4294967296", "room 00000000010", "room 5 ",
-  "text 1 x", "text 6 x", "text 2", "text 2x", "text 22 x", "text  2 x", "text -2 x", "Text 2 x",
-  "profile", "profile 1 1 1 1 g 4", "profile 1 1 1 1 g 4 1 ", "profile 1 1 1 1 g 4 1 1", "profile  1 1 1 1 g 4 1", "profile 1 1 1 1 kg 4 1",
-  "profile 1 1 1 1 G 4 1", "profile 1 1 1 1  4 1", "profile -1 1 1 1 g 4 1", "profile 4294967296 1 1 1 g 4 1", "profile 1 4294967296 1 1 g 4 1",
-  "profile 1 1 4294967296 1 g 4 1", "profile 1 1 1 4294967296 g 4 1", "profile 1 1 1 1 g 256 1", "profile 1 1 1 1 g 4 256", "profile 1 1 1 1 g 4 1\r",
-  " # no comment", "s1", "u-1", ">S", "bb 53", "quit")
-part("None of them changed anything, and these forms are good: hexadecimal in either case, leading zeros, a minus before zero.")
-w("b 64 57 0d 0A", "b 44 57 0d 0a", "b 44 57 0D 0A", "s 0000000007", "s -0", "s -0000000007", "> SI", "room 0256", "profile 0220000000 01000000 04400000 03 g 04 01", "> TA")
+def good(chars):
+    return "b " + in_hex(chars)
 
-part("Order 1: a faulty byte goes before everything else, also before a reset.")
-start()
-seen("f 40", "b 0D 0A", "b 51", "f 51", "b 0D 0A")
-seen("b 53 20 31", "f 31", "b 0D 0A")
-part("Order 2: a byte below 32, or no name, goes before what follows the name.")
-w("> ", "> s", "> Q", "> Q 1", "> SIX", "> SIX 1", "> S1", "> \"S\"", "> S\t", "> D \"a\tb\"", "> TA 1 g\r", "b 53 1F 0D 0A", "b 53 00 0D 0A", "b 20 53 0D 0A", "b 53 7F 0D 0A", "b FF 0D 0A")
-part("Order 3: anything after a name that takes no parameters; one space is enough.")
-for n in NAMES:
-    if n not in ("D", "TA"):
-        seen("> %s " % n, "> %s 1" % n)
-w("> S  ", "> SI SI", "> TAC 1 g", "> @ @")
-part("Order 4: a reset, also while a command waits; its wait ends unanswered.")
-seen("> T", "> @", "s 5000", "> TA")
-part("Order 5: while a command waits, every name but @ answers I, with wrong parameters too. Rows 1 to 3 go before.")
-start()
-w("> S")
-for n in NAMES:
-    if n != "@":
-        seen("> " + n)
-w("> D \"a\"", "> D a", "> TA 1 g", "> TA x", "> Q", "> S 1", "f 51", "b 0D 0A", "> ", "s 20000", "> SI")
-part("Order 6: wrong parameters, with no sample yet.")
-start()
-w("> D", "> D ", "> D a", "> D \"", "> D \"a", "> D a\"", "> D \"a\" ", "> D  \"a\"", "> D \"a\"b\"", "> D \"a\" \"b\"", "> D \"123456789012345678901\"", "> D \"\"\"", "> D A")
-w("> TA ", "> TA 1", "> TA 1 ", "> TA  1 g", "> TA 1  g", "> TA 1 g ", "> TA g", "> TA 1 kg", "> TA 1 mg", "> TA 1 G", "> TA 1g", "> TA . g", "> TA .5 g", "> TA 5. g", "> TA 1..2 g",
-  "> TA 1.2.3 g", "> TA +1 g", "> TA -1 g", "> TA 1e1 g", "> TA 1,5 g", "> TA 0.0000001 g", "> TA 00000000001 g", "> TA 220.000001 g", "> TA 9999999999 g")
-part("Order 7: SI, SIR, TI and ZI with no sample since power-on; a sample before the power-on is none.")
-w("> SI", "> SIR", "> TI", "> ZI", "s 1", "> SI", "on", "> SI", "> SIR", "> TI", "> ZI")
-part("Order 8: the commands' own rules, with nothing waiting.")
-start()
-w("s 30000")
-for n in NAMES:
-    seen("> " + n)
-w("> D \"\"", "> D \"12345678901234567890\"", "> D \"" + "\xff\x80 !" + "\"", "> DW", "> TA 0 g", "> TA 0000000000 g", "> TA 220 g", "> TA 0.000001 g", "> TA 0.000049 g", "> TA 0.00005 g", "> TA 123.456789 g", "> TAC", "> TA")
 
-part("Lines of 63, 64, 65 and 200 bytes: a name with spaces, TA with digits, a shown text, letters.")
-start()
-for n in (63, 64, 65, 200):
-    w("> S" + " " * (n - 1), "> TA " + "1" * (n - 5) + " g", "> D \"" + "x" * (n - 4) + "\"", "> " + "S" * n, "> DW")
-part("A CR in the 65th and the 66th place, LF not after it; and after 64 bytes CR LF.")
-w("b " + hexed("S" * 64 + "\rX\r\n"), "b " + hexed("S" * 65 + "\rX\r\n"), "b " + hexed("S" + " " * 63 + "\r\n"), "b " + hexed("S" + " " * 63 + "\r\r\n"))
+def faulty(chars):
+    return "f " + in_hex(chars)
 
-part("A faulty byte in each place of DW CR LF, each with its good neighbours; a line ends only at a good CR with a good LF.")
-for at in range(4):
+
+CR = good("\r")
+LF = good("\n")
+END = good("\r\n")
+
+
+def profile(c=220_000_000, u=1_000_000, r=4_400_000, w=3, unit="g", d=4, k=1):
+    """Profile A, but for the values that are given."""
+    return f"profile {c} {u} {r} {w} {unit} {d} {k}"
+
+
+PROFILE_A = profile()
+
+
+def small(c=1000, u=0, r=0, **others):
+    """The profile of C 1000, U 0 and R 0, but for the values that are given."""
+    return profile(c, u, r, **others)
+
+
+def text(number, value):
+    """The text of I2 to I5."""
+    return f"text {number} {value}"
+
+
+def power_on(given=PROFILE_A, *texts):
+    play(given, *texts, "on")
+
+
+# ---- "Commands carried"
+
+NAMES = "I0 I1 I2 I3 I4 I5 S SI SIR Z ZI @ D DW T TA TAC TI".split()
+WITH_PARAMETERS = ("D", "TA")
+WAITING = ("S", "T", "Z")
+
+
+def near_names():
+    part("Each name with a letter more and less, before and after, and in small letters.")
+    power_on()
+    play("s 1000")
+    for name in NAMES:
+        if len(name) > 1:
+            play("> " + name[:-1], "> " + name[1:])
+        play(f"> {name}X", f"> X{name}", f"> {name}{name[-1]}")
+        if name.lower() != name:
+            play("> " + name.lower())
+
+
+# ---- "The profile"
+
+
+def capacity_limits():
+    part("Each line of the profile at its limit and broken alone. "
+         "C: 0, 1, 1,000,000,000 and one more.")
+    for c in (0, 1, 1_000_000_000, 1_000_000_001):
+        power_on(small(c=c))
+    # The most that 32 bits hold.
+    power_on(small(c=4_294_967_295, d=0))
+
+
+def margin_and_range_limits():
+    part("U and R: C, and one more.")
+    for u in (1000, 1001, 4_294_967_295):
+        power_on(small(u=u))
+    for r in (1000, 1001, 4_294_967_295):
+        power_on(small(r=r))
+
+
+def patience_limits():
+    part("W: 0, 1, 1000, 1001.")
+    for w in (0, 1, 1000, 1001, 4_294_967_295):
+        power_on(small(w=w))
+
+
+def decimals_and_step_limits():
+    part("Decimals: 0, 6, 7, 255. Step: 0, 1, 2, 3, 4, 5, 6, 10, 255.")
+    # oz: its step is a microgram or more with 7 decimals too.
+    for d in (0, 6, 7, 255):
+        power_on(small(unit="oz", d=d))
+    for k in (0, 1, 2, 3, 4, 5, 6, 10, 255):
+        power_on(small(k=k))
+
+
+FINEST = [
+    ("g", 6, 1),
+    ("mg", 3, 1), ("mg", 3, 2), ("mg", 3, 5),
+    ("ct", 5, 1), ("ct", 5, 2), ("ct", 6, 5),
+    ("oz", 6, 1),
+    ("ozt", 6, 1),
+    ("GN", 4, 1), ("GN", 5, 2), ("GN", 5, 5),
+    ("dwt", 6, 1),
+]
+TOO_FINE = [
+    ("g", 7, 5),
+    ("mg", 4, 1), ("mg", 4, 2), ("mg", 4, 5),
+    ("ct", 6, 1), ("ct", 6, 2),
+    ("GN", 5, 1), ("GN", 6, 5),
+]
+
+
+def finest_steps():
+    part("The step is a microgram or more: each unit with as many decimals as it can have, "
+         "and one more.")
+    for unit, d, k in FINEST:
+        power_on(small(unit=unit, d=d, k=k))
+        play("s 1000", "> S")
+    for unit, d, k in TOO_FINE:
+        power_on(small(unit=unit, d=d, k=k))
+
+
+def widest_nets():
+    part("Every net fits ten characters: the highest, and the lowest with U.")
+    # C alone: the lowest net is -C, and its minus takes a place.
+    power_on(small(c=999_999_999, d=6))
+    power_on(small(c=999_999_499, d=5))
+    power_on(small(c=1_000_000_000, d=5))
+    power_on(small(c=1_000_000_000, d=6))
+    power_on(small(c=99_999_999, d=6))
+    power_on(small(c=100_000_000, d=6))
+    # U and C together, the last that fit and one more; with 5 decimals the rounding decides.
+    power_on(small(c=50_000_000, u=49_999_999, d=6))
+    power_on(small(c=50_000_000, u=50_000_000, d=6))
+    power_on(small(c=500_000_000, u=499_999_994, d=5))
+    power_on(small(c=500_000_000, u=499_999_995, d=5))
+    # mg, with and without decimals.
+    power_on(small(c=1_000_000_000, u=1_000_000_000, unit="mg", d=0))
+    power_on(small(c=1_000_000_000, unit="mg", d=2))
+    power_on(small(c=99_999_994, unit="mg", d=2))
+
+
+def printed_ends():
+    part("At both ends the weight is printed whole.")
+    power_on(small(c=50_000_000, u=49_999_999, d=6))
+    play("s 50000000", "> S")
+    # The tare is C, the gross -U.
+    play("> T", "s -49999999", "> S")
+
+
+def text_lengths():
+    part("Texts at their lengths: none, the most, and one more, which the script refuses.")
+    for number, most in ((2, 40), (3, 40), (4, 20), (5, 20)):
+        full = "abcdefghij" * (most // 10)
+        for value in ("", full, full + "k", " two  spaces "):
+            play(text(number, value), f"> I{number}")
+
+
+def text_bytes():
+    part("A byte below 32 or a quote in any text is a broken profile: 31, CR, 34. "
+         "32, 33, 35, 127, 128 and 255 are not.")
+    for number in (2, 3, 4, 5):
+        play(text(number, "a\x1fb"), "on", f"> I{number}")
+        play(text(number, "\r"), "on")
+        play(text(number, '"'), "on")
+        play(text(number, " !#\x7f\x80\xff"), "on", f"> I{number}")
+    # Back to profile A's texts.
+    play(text(2, ""), text(3, ""), text(4, "VA-0001"), text(5, ""))
+
+
+# ---- "Weights"
+
+
+def exact_weights():
+    part("Zero and tare to the microgram, and the sample, "
+         "which answers show only to a display step.")
+    power_on()
+    # T, Z, TI and ZI, with loads that the answers round.
+    watch("s 49", "> T", "> TAC", "s -49", "> Z", "u 51", "> TI", "> ZI")
+    # Zero at both ends of its range.
+    watch("s 4400000", "> ZI", "s -4400000", "> Z")
+    # Gross is load - zero.
+    watch("s 0", "> T", "> @")
+    # A typed tare: one microgram, six decimals, and above C.
+    watch("> TA 0.000001 g", "> TA 123.456789 g", "> TA 220.000001 g", "> TA", "> @")
+    # The ends of 32 bits.
+    watch("s 2147483647", "u -2147483648")
+    # Typed in mg: half a microgram is rounded up, less is not.
+    power_on(profile(c=99_999_999, u=0, unit="mg", d=3))
+    watch("> TA 0.0005 mg", "> TA 0.000499 mg", "> TA 1.001500 mg", "> TA 1.001499 mg", "> TAC")
+    # Typed in oz, which is no whole number of micrograms.
+    power_on(profile(unit="oz", d=5))
+    watch("> TA 0.000001 oz", "> TA 0.00003 oz", "> TA 0.01 oz", "> TA 7.5 oz")
+    watch("s 28349523", "> T")
+
+
+# ---- "Receiving"
+
+
+def odd_line_ends():
+    part("CR and LF in odd places: LF alone, CR alone, CR CR LF, CR x LF, LF CR LF, "
+         "a line of CR LF only, twice.")
+    power_on()
+    play(good("DW\nDW\r\n"), good("DW\rDW\r\n"), good("DW\r\r\n"))
+    play(good("DW\rx\n\r\n"), good("DW\n\r\n"))
+    # Empty lines.
+    play(END, good("\r\n\r\n"))
+    # LF and CR at the head of a line.
+    play(good("\nDW\r\n"), good("\rDW\r\n"))
+    # The LF on a line of its own.
+    play(good("DW\r\nDW\r\nDW\r"), LF)
+    # A CR more, in the script's own form for a line.
+    play("> DW\r", "> \r", "> \rDW")
+
+
+def lines_in_pieces():
+    part("Two commands in one line of the script, and one in pieces.")
+    play(good("DW\r\nTAC\r\n"))
+    play(good("T"), good("AC"), CR, LF)
+    play(good("T"), "> AC")
+
+
+def long_lines():
+    part("Lines of 63, 64, 65 and 200 bytes: "
+         "a name with spaces, TA with digits, a shown text, letters.")
+    power_on()
+    for size in (63, 64, 65, 200):
+        play("> " + "S".ljust(size))
+        play("> TA " + "1" * (size - 5) + " g")
+        play('> D "' + "x" * (size - 4) + '"')
+        play("> " + "S" * size)
+        # What was dropped is not left over for the next line.
+        play("> DW")
+
+
+def cr_past_the_longest():
+    part("A CR in the 65th and the 66th place, LF not after it; and after 64 bytes CR LF.")
+    play(good("S" * 64 + "\rX\r\n"), good("S" * 65 + "\rX\r\n"))
+    # 64 bytes and a good end: EL. With a CR more: too long.
+    longest = "S".ljust(64)
+    play(good(longest + "\r\n"), good(longest + "\r\r\n"))
+
+
+def faulty_in_each_place():
+    part("A faulty byte in each place of DW CR LF, each with its good neighbours; "
+         "a line ends only at a good CR with a good LF.")
     line = "DW\r\n"
-    if line[:at]: w("b " + hexed(line[:at]))
-    w("f " + hexed(line[at]))
-    if line[at+1:]: w("b " + hexed(line[at+1:]))
-    w("b 0D 0A")
-part("Faulty in the 64th, 65th, 66th and 200th place of a line of 210 bytes, and in the CR and the LF after 64.")
-for at in (63, 64, 65, 199):
-    w("b " + hexed("S" * at), "f 53", "b " + hexed("S" * (209 - at) + "\r\n"))
-w("b " + hexed("S" * 64), "f 0D", "b 0A 0D 0A", "b " + hexed("S" * 64 + "\r"), "f 0A", "b 0D 0A")
-part("Every byte of a line faulty, CR and LF too: the line goes on. The next one is good again.")
-w("f " + hexed("DW\r\n"), "b 0D 0A", "> DW")
+    for at in range(len(line)):
+        before, after = line[:at], line[at + 1:]
+        if before:
+            play(good(before))
+        play(faulty(line[at]))
+        if after:
+            play(good(after))
+        play(END)
 
-part("CR and LF in odd places: LF alone, CR alone, CR CR LF, CR x LF, LF CR LF, a line of CR LF only, twice.")
-start()
-w("b " + hexed("DW\nDW\r\n"), "b " + hexed("DW\rDW\r\n"), "b " + hexed("DW\r\r\n"), "b " + hexed("DW\rx\n\r\n"), "b " + hexed("DW\n\r\n"), "b 0D 0A", "b 0D 0A 0D 0A", "b " + hexed("\nDW\r\n"), "b " + hexed("\rDW\r\n"), "b " + hexed("DW\r\nDW\r\nDW\r"), "b 0A", "> DW\r", "> \r", "> \rDW")
-part("Two commands in one line of the script, and one in pieces.")
-w("b " + hexed("DW\r\nTAC\r\n"), "b 54", "b 41 43", "b 0D", "b 0A", "b 54", "> AC")
 
-part("Each name with a letter more and less, before and after, and in small letters.")
-start()
-w("s 1000")
-for n in NAMES:
-    if len(n) > 1: w("> " + n[:-1], "> " + n[1:])
-    w("> %sX" % n, "> X%s" % n, "> %s%s" % (n, n[-1]))
-    if n.lower() != n: w("> " + n.lower())
+def faulty_in_long_lines():
+    part("Faulty in the 64th, 65th, 66th and 200th place of a line of 210 bytes, "
+         "and in the CR and the LF after 64.")
+    # A faulty byte counts where bytes are dropped, too.
+    for at in (63, 64, 65, 199):
+        play(good("S" * at), faulty("S"), good("S" * (209 - at) + "\r\n"))
+    play(good("S" * 64), faulty("\r"), good("\n\r\n"))
+    play(good("S" * 64 + "\r"), faulty("\n"), END)
 
-part("Bench cases: rounding.")
-start(); w("s 14256049", "> S", "s 14256050", "> S", "s -49", "> S", "s -50", "> S")
-start("profile 220000000 1000000 4400000 3 g 4 5"); w("s 249", "> S", "s 250", "> S", "s -249", "> S", "s -250", "> S")
-start("profile 220000000 1000000 4400000 3 ct 3 1"); w("s 99", "> S", "s 100", "> S")
-start("profile 220000000 1000000 4400000 3 oz 5 1"); w("s 28349523", "> S")
-part("Bench cases: capacity and underload.")
-start(); w("s 220000000", "> S", "s 220000001", "> S", "s -1000000", "> S", "s -1000001", "> S", "s 2147483647", "> S", "s -2147483648", "> S")
-part("Bench cases: zeroing and taring.")
-start(); w("s 4400000", "> Z", "s 4400001", "> Z", "> ZI", "s -4400000", "> Z", "s -4400001", "> Z", "> ZI")
-start(); w("s -1", "> T", "> TI", "s 220000001", "> T", "> TI", "s 220000000", "> T", "s 0", "> T")
-start(); w("s 10000050", "> T", "s 10000100", "> S")
-start(); w("> TA 100.00 g", "> TA -1 g", "> TA 220.000001 g", "> TA 100.00 G", "> TA 1. g", "> TA")
-part("Bench cases: waiting, and lines.")
-start(); w("> S", "u 1", "u 2", "u 3", "u 4")
-start(); w("> SIR", "> ", "> s", "> S\r", "> S 1", "> " + "S" * 65)
-part("Bench cases: profiles.")
-for p in ("profile 99999999 0 4400000 3 mg 3 1", "profile 100000000 0 4400000 3 mg 3 1", "profile 1000000 0 0 3 GN 5 1", "profile 1000000 0 0 3 GN 5 2"): start(p)
 
-part("Waits: S, T and Z each granted by the second sample, and each out of patience; the sample before the command does not count.")
-for n in "STZ":
-    start(); w("u 1000", "> " + n, "u 2000", "s 3000", "s 4000", "u 1000", "> " + n, "u 2000", "u 3000", "u 4000", "s 5000", "> SI")
-part("A wait judged + or - ends too, and stores nothing.")
-start(); w("> T", "s -1", "u 1", "> T", "s 220000001", "u 1", "> Z", "s 4400001", "u 1", "> Z", "s -4400001", "u 1", "> S", "s 220000001", "u 1", "> S", "s -1000001", "> TA", "s 5000", "> SI")
-part("W 1 and W 1000.")
-start("profile 220000000 1000000 4400000 1 g 4 1"); w("> S", "u 1", "> S", "s 1", "u 1", "> S", "u 1")
-start("profile 220000000 1000000 4400000 1000 g 4 1"); w("> T", "u 7", "u 8", "u 9", "u 10", "s 11")
+def faulty_throughout():
+    part("Every byte of a line faulty, CR and LF too: the line goes on. "
+         "The next one is good again.")
+    play(faulty("DW\r\n"), END)
+    play("> DW")
 
-part("Repetition: each sample is answered; S and SI end it, other commands do not; a waiting command is answered alone.")
-start(); w("s 1000", "> SIR", "s 2000", "u 3000", "s 220000001", "u -1000001", "> DW", "s 4000", "> TA 0.001 g", "s 4000", "> SI", "s 5000")
-w("> SIR", "u 6000", "> T", "u 7000", "s 8000", "s 9000", "> Z", "s 9000", "> S", "s 9000", "s 9000")
-w("> SIR", "u 1", "> Q", "> S 1", "u 1", "> @", "u 1", "s 220000001", "> SIR", "s 1000", "> S", "s 1000")
-part("A reset keeps zero and latest sample, and drops tare and text.")
-start(); w("s 1000", "> Z", "s 5000", "> T", "> D \"x\"", "> @", "> SI", "> TA", "s 1000", "> SI")
-part("Zeroing drops the tare; what is refused keeps it.")
-start(); w("s 5000", "> T", "s 4400001", "> Z", "> ZI", "> TA", "s 6000", "> ZI", "> TA", "> SI", "u 7000", "> TI", "> ZI", "> TA")
 
-part("The display: D shows its text, DW and @ and a power-on bring the weight back.")
-start()
-seen("> D \"HALLO\"", "> DW", "> D \"HALLO\"", "> @", "> D \"HALLO\"", "on", "> DW")
-seen("> D \"\"", "> D \"x\"", "> D \"12345678901234567890\"", "> D \"\xff\x80 !#\x7f \"", "> @")
-part("The display stays as it is when D or DW is refused, by every error, and by every other command and its +, - and I.")
-start()
-seen("> D \"TEXT 1\"", "> D \"123456789012345678901\"", "> D TEXT", "> D", "> D \"", "> D \"a\"b\"")
-seen("> DW 1", "> DW ", "> dw", "> @ ", "> Q", "> ", "f 44", "b 57 0D 0A", "> D \"a\tb\"")
-seen("> SI", "> SIR", "> TI", "> ZI", "> TA x")
-seen("s 220000001", "> S", "> SI", "> T", "> TI", "> Z", "> ZI")
-seen("s -4400001", "> S", "> SI", "> T", "> TI", "> Z", "> ZI")
-w("s 30000")
-for n in NAMES:
-    if n not in ("@", "DW"):
-        seen("> " + n)
-part("The display while a command waits: D and DW answer I and show nothing, and the wait's end leaves the text, by a judgement",
-     "and by I. The count is of the samples of this wait alone: it starts anew after an I, a judgement and a reset.")
-for n in "STZ":
-    start()
-    seen("> D \"TEXT\"", "u 1000", "> " + n, "> DW", "> D \"OTHER\"", "> D x", "> " + n, "u 2000", "> Q", "u 3000", "u 4000")
-    seen("> " + n, "u 5000", "s 6000")
-    seen("u 1000", "> " + n, "u 2000", "u 3000", "> @", "> " + n, "u 4000", "on")
-part("Whether SIR repeats: begun by its own answer, also by + and -, not by I or EL;",
-     "ended by S, SI, @ and a power-on, not by others.")
-start()
-seen("> SIR", "s 1000", "> SIR 1", "> SIR", "s 2000", "> S", "> SIR", "> SI", "> SIR", "> @", "> SIR", "on")
-seen("s 220000001", "> SIR", "s -1000001", "> SIR", "> SI")
-seen("u 1000", "> T", "> SIR", "u 2000", "s 3000")
-seen("> SIR", "u 3000", "> T", "> S", "> SI", "u 4000", "s 5000", "> Q", "> DW", "> TAC", "> Z")
-seen("u 3000", "> Z", "u 4000", "u 5000", "u 6000", "u 7000", "> S", "u 8000", "> @")
-part("Zero and tare to the microgram, and the sample, which answers show only to a display step.")
-start()
-seen("s 49", "> T", "> TAC", "s -49", "> Z", "u 51", "> TI", "> ZI", "s 4400000", "> ZI", "s -4400000", "> Z")
-seen("s 0", "> T", "> @", "> TA 0.000001 g", "> TA 123.456789 g", "> TA 220.000001 g", "> TA", "> @")
-seen("s 2147483647", "u -2147483648")
-start("profile 99999999 0 4400000 3 mg 3 1")
-seen("> TA 0.0005 mg", "> TA 0.000499 mg", "> TA 1.001500 mg", "> TA 1.001499 mg", "> TAC")
-start("profile 220000000 1000000 4400000 3 oz 5 1")
-seen("> TA 0.000001 oz", "> TA 0.00003 oz", "> TA 0.01 oz", "> TA 7.5 oz", "s 28349523", "> T")
-part("The line on its way: its bytes, a CR that may end it, a faulty byte, and more than 64 bytes.")
-start()
-seen("b 44", "b 57", "b 0D", "b 0A", "b 44 0D", "b 0D", "b 57", "b 0D 0A", "b 0A", "b 0D", "b 0A")
-seen("b 44", "f 57", "b 0D", "b 0A", "f 0D", "b 0A", "b 0D", "f 0A", "b 0D", "b 0A")
-seen("b " + hexed("S" * 63), "b 53", "b 0D", "b 0A")
-seen("b " + hexed("S" * 64), "b 53", "b 53", "b 0D", "b 0A")
-seen("b " + hexed("S" * 64), "b 0D", "b 0D", "b 0A")
-seen("b " + hexed("S" * 64), "b 0D", "b 53", "b 0D", "b 0A")
-seen("b " + hexed("S" * 64), "f 53", "b 53", "b 0D", "b 0A")
-seen("b " + hexed("S" * 64), "f 0D", "b 0A", "b 0D", "f 0A", "b 0D", "b 0A")
-seen("f " + hexed("S" * 65), "b 53", "b 0D", "f 0D", "b 0D 0A")
-seen("b 01 00 1F", "b 0D 0A", "b 44 57", "on", "b 0D 0A", "f 44", "b 0D", "on", "b 0A", "b 0D 0A")
-part("A refused call takes nothing: by 3, by 1, by 2, and a refused power-on.")
-start()
-seen("> D \"TEXT\"", "s 5000", "> Z", "s 7000", "> T", "> SIR", "b 44")
-seen("room 17", "s 1", "u 2", "room 0", "b 57 0D", "b 0A", "room 256")
-seen("profile 0 0 0 0 g 9 9", "b 0A", "f 0A", "s 1", "on")
-seen("profile 220000000 1000000 4999 3 g 4 1", "b 0A", "s 1")
-seen("profile 1999 1000 1999 3 g 4 1", "b 0A", "u 1")
-w(A)
-seen("room 15", "on", "room 256", "b 0A", "u 8000")
-seen("> S", "u 1", "u 2", "room 0", "u 3", "s 4", "room 256")
-seen("profile 220000000 1000000 4400000 2 g 4 1", "u 3", "> @")
-w(A)
-seen("u 3", "on")
+def line_on_its_way():
+    part("The line on its way: its bytes, a CR that may end it, a faulty byte, "
+         "and more than 64 bytes.")
+    power_on()
+    # A CR ends the line only with the LF at once after it.
+    watch(good("D"), good("W"), CR, LF)
+    watch(good("D\r"), CR, good("W"), END)
+    watch(LF, CR, LF)
+    # A faulty byte, and a faulty CR and LF, which end nothing.
+    watch(good("D"), faulty("W"), CR, LF)
+    watch(faulty("\r"), LF, CR, faulty("\n"), CR, LF)
+    # 64 bytes fit, the 65th is dropped.
+    watch(good("S" * 63), good("S"), CR, LF)
+    watch(good("S" * 64), good("S"), good("S"), CR, LF)
+    # After 64 bytes a CR that does not end the line is a byte too many.
+    watch(good("S" * 64), CR, CR, LF)
+    watch(good("S" * 64), CR, good("S"), CR, LF)
+    # After 64 bytes a faulty byte, CR or LF still counts.
+    watch(good("S" * 64), faulty("S"), good("S"), CR, LF)
+    watch(good("S" * 64), faulty("\r"), LF, CR, faulty("\n"), CR, LF)
+    watch(faulty("S" * 65), good("S"), CR, faulty("\r"), END)
+    # Bytes below 32 are held like others.
+    watch(good("\x01\x00\x1f"), END)
+    # A power-on empties the line, its marks and its CR.
+    watch(good("DW"), "on", END)
+    watch(faulty("D"), CR, "on", LF, END)
 
-part("What the manual 003 prints for these commands.")
-H = "profile 220000000 1000000 4400000 3 g 2 1"
-start(H); w("s 100000000", "> S", "u 129070000", "> SI", "u 129070000", "> SIR", "u 129080000", "s 129090000", "s 129090000", "u 114870000", "> SI")
-start(H); w("s 100000000", "> T", "> TAC", "> TA 100.00 g", "> TA", "u 117570000", "> TI")
-start("profile 220000000 1000000 4400000 3 g 3 1"); w("s 256000", "> S")
-start(); w("s 1", "> Z", "> ZI", "u 2", "> ZI", "> D \"Hallo\"", "> D \"HALLO\"", "> D \" \"", "> D \"\"", "> DW")
-start(); w("> D \"BEAKER\"", "s 70000000", "> T", "> D \"C1 100g\"")
-start(A, "text 2 AX204-Standard 220.0090 g", "text 3 1.05 1.1.1.17.7", "text 4 1114350697", "text 5 12345678A")
-w("> I2", "> I3", "> I4", "> I5", "> @", "> I1", "> I0", "text 2 PR5002DR R-Standard 5100.90 g", "> I2", "text 4 0123456789", "on", "> I4")
 
-part("Texts at their lengths: none, the most, and one more, which the script refuses.")
-for n, most in ((2, 40), (3, 40), (4, 20), (5, 20)):
-    w("text %d " % n, "> I%d" % n, "text %d %s" % (n, "abcdefghij" * (most // 10)), "> I%d" % n, "text %d %s" % (n, "abcdefghij" * (most // 10) + "k"), "> I%d" % n, "text %d  two  spaces " % n, "> I%d" % n)
-part("A byte below 32 or a quote in any text is a broken profile: 31, CR, 34. 32, 33, 35, 127, 128 and 255 are not.")
-for n in (2, 3, 4, 5):
-    w("text %d a\x1fb" % n, "on", "> I%d" % n, "text %d \r" % n, "on", "text %d \"" % n, "on", "text %d  !#\x7f\x80\xff" % n, "on", "> I%d" % n)
-w("text 2 ", "text 3 ", "text 4 VA-0001", "text 5 ")
+def order_1_faulty():
+    part("Order 1: a faulty byte goes before everything else, also before a reset.")
+    power_on()
+    # Before row 4.
+    watch(faulty("@"), END)
+    # Before row 2.
+    watch(good("Q"), faulty("Q"), END)
+    # Before row 3.
+    watch(good("S 1"), faulty("1"), END)
 
-part("Each line of the profile at its limit and broken alone. C: 0, 1, 1,000,000,000 and one more.")
-for p in ("0 0 0 3 g 4 1", "1 0 0 3 g 4 1", "1000000000 0 0 3 g 4 1", "1000000001 0 0 3 g 4 1", "4294967295 0 0 3 g 0 1"): start("profile " + p)
-part("U and R: C, and one more.")
-for p in ("1000 1000 0 3 g 4 1", "1000 1001 0 3 g 4 1", "1000 4294967295 0 3 g 4 1", "1000 0 1000 3 g 4 1", "1000 0 1001 3 g 4 1", "1000 0 4294967295 3 g 4 1"): start("profile " + p)
-part("W: 0, 1, 1000, 1001.")
-for p in ("1000 0 0 0 g 4 1", "1000 0 0 1 g 4 1", "1000 0 0 1000 g 4 1", "1000 0 0 1001 g 4 1", "1000 0 0 4294967295 g 4 1"): start("profile " + p)
-part("Decimals: 0, 6, 7, 255. Step: 0, 1, 2, 3, 4, 5, 6, 10, 255.")
-for d in (0, 6, 7, 255): start("profile 1000 0 0 3 oz %d 1" % d)
-for k in (0, 1, 2, 3, 4, 5, 6, 10, 255): start("profile 1000 0 0 3 g 4 %d" % k)
-part("The step is a microgram or more: each unit with as many decimals as it can have, and one more.")
-for u, ok in (("g", ((6, 1),)), ("mg", ((3, 1), (3, 2), (3, 5))), ("ct", ((5, 1), (5, 2), (6, 5))), ("oz", ((6, 1),)), ("ozt", ((6, 1),)), ("GN", ((4, 1), (5, 2), (5, 5))), ("dwt", ((6, 1),))):
-    for d, k in ok:
-        start("profile 1000 0 0 3 %s %d %d" % (u, d, k)); w("s 1000", "> S")
-for p in ("1000 0 0 3 g 7 5", "1000 0 0 3 mg 4 1", "1000 0 0 3 mg 4 2", "1000 0 0 3 mg 4 5", "1000 0 0 3 ct 6 1", "1000 0 0 3 ct 6 2", "1000 0 0 3 GN 5 1", "1000 0 0 3 GN 6 5"): start("profile " + p)
-part("Every net fits ten characters: the highest, and the lowest with U.")
-for p in ("999999999 0 0 3 g 6 1", "999999499 0 0 3 g 5 1", "1000000000 0 0 3 g 5 1", "1000000000 0 0 3 g 6 1", "99999999 0 0 3 g 6 1", "100000000 0 0 3 g 6 1", "50000000 49999999 0 3 g 6 1", "50000000 50000000 0 3 g 6 1", "500000000 499999994 0 3 g 5 1", "500000000 499999995 0 3 g 5 1", "1000000000 1000000000 0 3 mg 0 1", "1000000000 0 0 3 mg 2 1", "99999994 0 0 3 mg 2 1"): start("profile " + p)
-part("At both ends the weight is printed whole.")
-start("profile 50000000 49999999 0 3 g 6 1"); w("s 50000000", "> S", "> T", "s -49999999", "> S")
 
-part("Refusal 1: a broken profile with the next call, whatever the state; mended, all is as before.")
-start(); w("s 5000", "> T", "profile 0 0 0 0 g 9 9", "s 1", "u 1", "b 53", "f 53", "on", "> DW", A, "> TA", "> DW")
-part("Refusal 1 goes before 2 and 3, and 2 before 3.")
-w("s 5000", "> Z", "room 0", "profile 0 0 0 3 g 4 1", "> DW", "profile 220000000 1000000 4999 3 g 4 1", "> DW", A, "> DW", "room 256", "b 0A")
-part("Refusal 2: zero above R and below -R; tare above C; waiting with W samples counted. Power-on does not look at them.")
-start(); w("s 5000", "> Z", "profile 220000000 1000000 5000 3 g 4 1", "> DW", "profile 220000000 1000000 4999 3 g 4 1", "> DW", "s 1", A, "s -5000", "> Z", "profile 220000000 1000000 5000 3 g 4 1", "> DW", "profile 220000000 1000000 4999 3 g 4 1", "> DW", "on", "> DW")
-start(); w("s 5000", "> T", "profile 5000 0 0 3 g 4 1", "> TA", "profile 4999 0 0 3 g 4 1", "> TA", A, "> TA")
-start(); w("> S", "u 1", "u 2", "profile 220000000 1000000 4400000 2 g 4 1", "u 3", "> DW", "profile 220000000 1000000 4400000 1 g 4 1", "s 3", A, "> DW", "u 3")
-part("Refusal 3: every answer in a room one too short, then in its own; the byte or the sample is not taken.")
-start(); w("s 1000")
-for text, size in (("DW", 6), ("TAC", 7), ("SI", 18), ("TA", 19), ("TI", 19), ("I4", 16), ("@", 16), ("I0", 231), ("I1", 24), ("I2", 9), ("Q", 4), ("S 1", 4), ("Z", 5), ("ZI", 6), ("D", 5)):
-    w("room %d" % (size - 1), "> " + text, "room %d" % size, "b 0A")
-w("room 15", "on", "room 16", "on", "room 0", "s 4", "u 5", "room 1024", "> SI", "> S", "room 17", "s 1000", "room 18", "s 1000", "room 4", "> SIR", "room 256", "b 0A", "room 17", "s 2000", "u 3000", "room 18", "s 2000", "room 4", "> S", "room 256", "b 0A")
-part("In a room of 0 a line is received up to its CR.")
-w("room 0", "b 44 57 0D", "b 0A", "b 0A", "room 6", "b 0A", "room 256")
+def order_2_no_name():
+    part("Order 2: a byte below 32, or no name, goes before what follows the name.")
+    # No name, alone and with something after it.
+    play("> ", "> s", "> Q", "> Q 1", "> SIX", "> SIX 1", "> S1", '> "S"')
+    # Below 32 after a name that takes no parameters, and in the parameters of D and TA.
+    play("> S\t", '> D "a\tb"', "> TA 1 g\r")
+    play(good("S\x1f\r\n"), good("S\x00\r\n"))
+    # Bytes of 32 and more that make it no name.
+    play(good(" S\r\n"), good("S\x7f\r\n"), good("\xff\r\n"))
 
-part("Comments and empty lines are passed over, a line of CR alone is not empty; the last line of this script has no LF.")
-w("#", "#on", "# on", "#\r", "", "\r", "state")
-w("> I5")
-data = b"\n".join(out)
-sys.stdout.buffer.write(data)
+
+def order_3_after_the_name():
+    part("Order 3: anything after a name that takes no parameters; one space is enough.")
+    for name in NAMES:
+        if name not in WITH_PARAMETERS:
+            watch(f"> {name} ", f"> {name} 1")
+    play("> S  ", "> SI SI", "> TAC 1 g", "> @ @")
+
+
+def order_4_reset():
+    part("Order 4: a reset, also while a command waits; its wait ends unanswered.")
+    watch("> T", "> @", "s 5000", "> TA")
+
+
+def order_5_waiting():
+    part("Order 5: while a command waits, every name but @ answers I, with wrong parameters too. "
+         "Rows 1 to 3 go before.")
+    power_on()
+    play("> S")
+    for name in NAMES:
+        if name != "@":
+            watch("> " + name)
+    # Good and wrong parameters.
+    play('> D "a"', "> D a", "> TA 1 g", "> TA x")
+    # Rows 2, 3, 1 and 2.
+    play("> Q", "> S 1", faulty("Q"), END, "> ")
+    # S waits still.
+    play("s 20000", "> SI")
+
+
+def order_6_wrong_parameters():
+    part("Order 6: wrong parameters, with no sample yet.")
+    power_on()
+    # D: none, or not in quotes.
+    play("> D", "> D ", "> D a", '> D "', '> D "a', '> D a"')
+    # D: something around the quotes, or a quote within them.
+    play('> D "a" ', '> D  "a"', '> D "a"b"', '> D "a" "b"')
+    # D: 21 bytes; a quote as the text; its own answer.
+    play('> D "123456789012345678901"', '> D """', "> D A")
+    # TA: a number and a unit, a single space before each.
+    play("> TA ", "> TA 1", "> TA 1 ", "> TA  1 g", "> TA 1  g", "> TA 1 g ", "> TA g")
+    # TA: the unit is the profile's.
+    play("> TA 1 kg", "> TA 1 mg", "> TA 1 G", "> TA 1g")
+    # TA: at most one point, with digits on both sides.
+    play("> TA . g", "> TA .5 g", "> TA 5. g", "> TA 1..2 g", "> TA 1.2.3 g")
+    # TA: digits alone.
+    play("> TA +1 g", "> TA -1 g", "> TA 1e1 g", "> TA 1,5 g")
+    # TA: 7 decimals; 11 characters; above C by a microgram, and by far.
+    play("> TA 0.0000001 g", "> TA 00000000001 g", "> TA 220.000001 g", "> TA 9999999999 g")
+
+
+def order_7_no_sample():
+    part("Order 7: SI, SIR, TI and ZI with no sample since power-on; "
+         "a sample before the power-on is none.")
+    play("> SI", "> SIR", "> TI", "> ZI")
+    play("s 1", "> SI", "on")
+    play("> SI", "> SIR", "> TI", "> ZI")
+
+
+def order_8_own_rules():
+    part("Order 8: the commands' own rules, with nothing waiting.")
+    power_on()
+    play("s 30000")
+    for name in NAMES:
+        watch("> " + name)
+    # D: no bytes, the most, and bytes of 128 and more.
+    play('> D ""', '> D "12345678901234567890"', '> D "\xff\x80 !"', "> DW")
+    # TA: zero, ten characters, C.
+    play("> TA 0 g", "> TA 0000000000 g", "> TA 220 g")
+    # TA: a microgram, both sides of half a display step, and six decimals.
+    play("> TA 0.000001 g", "> TA 0.000049 g", "> TA 0.00005 g", "> TA 123.456789 g")
+    play("> TAC", "> TA")
+
+
+# ---- "What each command does"
+
+
+def waits():
+    part("Waits: S, T and Z each granted by the second sample, and each out of patience; "
+         "the sample before the command does not count.")
+    for name in WAITING:
+        power_on()
+        # Granted.
+        play("u 1000", "> " + name, "u 2000", "s 3000")
+        # Out of patience.
+        play("s 4000", "u 1000", "> " + name, "u 2000", "u 3000", "u 4000")
+        # Nothing waits any more, and the last wait stored nothing.
+        play("s 5000", "> SI")
+
+
+def waits_out_of_range():
+    part("A wait judged + or - ends too, and stores nothing.")
+    power_on()
+    # T, Z and S, each by + and by -; the unstable sample lets the next command wait.
+    play("> T", "s -1", "u 1")
+    play("> T", "s 220000001", "u 1")
+    play("> Z", "s 4400001", "u 1")
+    play("> Z", "s -4400001", "u 1")
+    play("> S", "s 220000001", "u 1")
+    play("> S", "s -1000001")
+    # Tare and zero are 0.
+    play("> TA", "s 5000", "> SI")
+
+
+def patience():
+    part("W 1 and W 1000.")
+    # The first unstable sample ends the wait, a stable one is judged.
+    power_on(profile(w=1))
+    play("> S", "u 1", "> S", "s 1", "u 1", "> S", "u 1")
+    # Four unstable samples do not end it.
+    power_on(profile(w=1000))
+    play("> T", "u 7", "u 8", "u 9", "u 10", "s 11")
+
+
+def repetition():
+    part("Repetition: each sample is answered; S and SI end it, other commands do not; "
+         "a waiting command is answered alone.")
+    power_on()
+    # S S, S D, S + and S -.
+    play("s 1000", "> SIR", "s 2000", "u 3000", "s 220000001", "u -1000001")
+    # DW and TA do not end it; SI does.
+    play("> DW", "s 4000", "> TA 0.001 g", "s 4000", "> SI", "s 5000")
+    # T waits: its answer alone, then the repetition again. Z too does not end it; S does.
+    play("> SIR", "u 6000", "> T", "u 7000", "s 8000", "s 9000")
+    play("> Z", "s 9000", "> S", "s 9000", "s 9000")
+    # ES and EL do not end it; @ does.
+    play("> SIR", "u 1", "> Q", "> S 1", "u 1", "> @", "u 1")
+    # Begun by +.
+    play("s 220000001", "> SIR", "s 1000", "> S", "s 1000")
+
+
+def whether_it_repeats():
+    part("Whether SIR repeats: begun by its own answer, also by + and -, not by I or EL;")
+    play("# ended by S, SI, @ and a power-on, not by others.")
+    power_on()
+    # Not begun by I, with no sample, or by EL.
+    watch("> SIR", "s 1000", "> SIR 1")
+    # Ended by S, SI, @ and a power-on.
+    watch("> SIR", "s 2000", "> S")
+    watch("> SIR", "> SI")
+    watch("> SIR", "> @")
+    watch("> SIR", "on")
+    # Begun by +, and asked again at -.
+    watch("s 220000001", "> SIR", "s -1000001", "> SIR", "> SI")
+    # Not begun by I, while T waits.
+    watch("u 1000", "> T", "> SIR", "u 2000", "s 3000")
+    # Not ended by S and SI while T waits, or by other commands.
+    watch("> SIR", "u 3000", "> T", "> S", "> SI", "u 4000", "s 5000")
+    watch("> Q", "> DW", "> TAC", "> Z")
+    # Not ended by a wait that ends in I.
+    watch("u 3000", "> Z", "u 4000", "u 5000", "u 6000", "u 7000")
+    # Ended by an S that waits.
+    watch("> S", "u 8000", "> @")
+
+
+def zeroing_drops_the_tare():
+    part("Zeroing drops the tare; what is refused keeps it.")
+    power_on()
+    # Refused by +.
+    play("s 5000", "> T", "s 4400001", "> Z", "> ZI", "> TA")
+    # Granted, by a stable and by an unstable sample.
+    play("s 6000", "> ZI", "> TA", "> SI")
+    play("u 7000", "> TI", "> ZI", "> TA")
+
+
+def display():
+    part("The display: D shows its text, DW and @ and a power-on bring the weight back.")
+    power_on()
+    watch('> D "HALLO"', "> DW")
+    watch('> D "HALLO"', "> @")
+    watch('> D "HALLO"', "on", "> DW")
+    # No bytes, one, the most, and the ends of the bytes that D takes.
+    watch('> D ""', '> D "x"', '> D "12345678901234567890"', '> D "\xff\x80 !#\x7f "', "> @")
+
+
+def display_kept():
+    part("The display stays as it is when D or DW is refused, by every error, "
+         "and by every other command and its +, - and I.")
+    power_on()
+    watch('> D "TEXT 1"')
+    # D L.
+    watch('> D "123456789012345678901"', "> D TEXT", "> D", '> D "', '> D "a"b"')
+    # EL, ES and ET.
+    watch("> DW 1", "> DW ", "> dw", "> @ ", "> Q", "> ")
+    watch(faulty("D"), good("W\r\n"), '> D "a\tb"')
+    # I with no sample, and TA L.
+    watch("> SI", "> SIR", "> TI", "> ZI", "> TA x")
+    # + and -.
+    for load in (220_000_001, -4_400_001):
+        watch(f"s {load}", "> S", "> SI", "> T", "> TI", "> Z", "> ZI")
+    # Every name but the two that bring the weight back.
+    play("s 30000")
+    for name in NAMES:
+        if name not in ("@", "DW"):
+            watch("> " + name)
+
+
+def display_while_waiting():
+    part("The display while a command waits: D and DW answer I and show nothing, "
+         "and the wait's end leaves the text, by a judgement")
+    play("# and by I. The count is of the samples of this wait alone: "
+         "it starts anew after an I, a judgement and a reset.")
+    for name in WAITING:
+        power_on()
+        watch('> D "TEXT"', "u 1000", "> " + name)
+        # I, also for a wrong D and for the waiting command itself.
+        watch("> DW", '> D "OTHER"', "> D x", "> " + name)
+        # The third unstable sample is I; a line between does not count.
+        watch("u 2000", "> Q", "u 3000", "u 4000")
+        # Anew after I, and judged.
+        watch("> " + name, "u 5000", "s 6000")
+        # Anew after the judgement and after a reset.
+        watch("u 1000", "> " + name, "u 2000", "u 3000", "> @", "> " + name, "u 4000", "on")
+
+
+def reset_keeps():
+    part("A reset keeps zero and latest sample, and drops tare and text.")
+    power_on()
+    play("s 1000", "> Z", "s 5000", "> T", '> D "x"', "> @")
+    play("> SI", "> TA", "s 1000", "> SI")
+
+
+# ---- "Refusal numbers"
+
+BROKEN = profile(c=0, u=0, r=0, w=0, d=9, k=9)
+
+
+def refusal_1():
+    part("Refusal 1: a broken profile with the next call, whatever the state; "
+         "mended, all is as before.")
+    power_on()
+    play("s 5000", "> T")
+    play(BROKEN, "s 1", "u 1", good("S"), faulty("S"), "on", "> DW")
+    play(PROFILE_A, "> TA", "> DW")
+
+
+def refusals_in_order():
+    part("Refusal 1 goes before 2 and 3, and 2 before 3.")
+    play("s 5000", "> Z", "room 0")
+    # 1 with 2 and 3; 2 with 3; 3 alone.
+    play(profile(c=0, u=0, r=0), "> DW")
+    play(profile(r=4999), "> DW")
+    play(PROFILE_A, "> DW")
+    play("room 256", LF)
+
+
+def refusal_2():
+    part("Refusal 2: zero above R and below -R; tare above C; waiting with W samples counted. "
+         "Power-on does not look at them.")
+    # Zero at R and above it, at -R and below it.
+    power_on()
+    play("s 5000", "> Z", profile(r=5000), "> DW", profile(r=4999), "> DW", "s 1")
+    play(PROFILE_A)
+    play("s -5000", "> Z", profile(r=5000), "> DW", profile(r=4999), "> DW", "on", "> DW")
+    # Tare at C and above it.
+    power_on()
+    play("s 5000", "> T", small(c=5000), "> TA", small(c=4999), "> TA", PROFILE_A, "> TA")
+    # Two samples counted, W 2 and W 1.
+    power_on()
+    play("> S", "u 1", "u 2", profile(w=2), "u 3", "> DW", profile(w=1), "s 3")
+    play(PROFILE_A, "> DW", "u 3")
+
+
+ANSWER_SIZES = [
+    ("DW", 6), ("TAC", 7),
+    ("SI", 18), ("TA", 19), ("TI", 19),
+    ("I4", 16), ("@", 16), ("I0", 231), ("I1", 24), ("I2", 9),
+    ("Q", 4), ("S 1", 4),
+    ("Z", 5), ("ZI", 6),
+    ("D", 5),
+]
+
+
+def refusal_3():
+    part("Refusal 3: every answer in a room one too short, then in its own; "
+         "the byte or the sample is not taken.")
+    power_on()
+    play("s 1000")
+    for name, size in ANSWER_SIZES:
+        play(f"room {size - 1}", "> " + name, f"room {size}", LF)
+    # A power-on.
+    play("room 15", "on", "room 16", "on")
+    # A sample with no answer due needs no room.
+    play("room 0", "s 4", "u 5", "room 1024", "> SI")
+    # The sample that ends a wait.
+    play("> S", "room 17", "s 1000", "room 18", "s 1000")
+    # The LF of SIR, each sample of the repetition, and the LF of S.
+    play("room 4", "> SIR", "room 256", LF)
+    play("room 17", "s 2000", "u 3000", "room 18", "s 2000")
+    play("room 4", "> S", "room 256", LF)
+
+
+def no_room():
+    part("In a room of 0 a line is received up to its CR.")
+    play("room 0", good("DW\r"), LF, LF)
+    play("room 6", LF, "room 256")
+
+
+def refused_takes_nothing():
+    part("A refused call takes nothing: by 3, by 1, by 2, and a refused power-on.")
+    # A text, a zero, a tare, a repetition and a line that could be lost.
+    power_on()
+    watch('> D "TEXT"', "s 5000", "> Z", "s 7000", "> T", "> SIR", good("D"))
+    # By 3: samples, and the LF.
+    watch("room 17", "s 1", "u 2", "room 0", good("W\r"), LF, "room 256")
+    # By 1: every call.
+    watch(BROKEN, LF, faulty("\n"), "s 1", "on")
+    # By 2: the zero is above R; then the tare is above C as well.
+    watch(profile(r=4999), LF, "s 1")
+    watch(profile(c=1999, u=1000, r=1999), LF, "u 1")
+    # A power-on by 3; the line then ends, and the repetition goes on.
+    play(PROFILE_A)
+    watch("room 15", "on", "room 256", LF, "u 8000")
+    # The last sample of a wait: by 3, by 2, then taken.
+    watch("> S", "u 1", "u 2", "room 0", "u 3", "s 4", "room 256")
+    watch(profile(w=2), "u 3", "> @")
+    play(PROFILE_A)
+    watch("u 3", "on")
+
+
+def before_power_on():
+    part("Before a power-on is granted every call and `state` is `?`, "
+         "and a refused one leaves it so.")
+    # Every other call.
+    watch("> S", "> ", good("S"), faulty("S"), "s 1", "u 1")
+    # A power-on's answer has 16 bytes.
+    watch("room 15", "on", "> S")
+    watch("room 16", "on", "> S")
+    # No line of the script's.
+    watch("@ on")
+    watch("room 256")
+
+
+# ---- "Proof each function owes": what the manuals print
+
+
+def manual():
+    part("What the manual 003 prints for these commands.")
+    # S, SI and SIR.
+    power_on(profile(d=2))
+    play("s 100000000", "> S")
+    play("u 129070000", "> SI")
+    play("u 129070000", "> SIR", "u 129080000", "s 129090000", "s 129090000", "u 114870000", "> SI")
+    # T, TAC, TA and TI.
+    power_on(profile(d=2))
+    play("s 100000000", "> T", "> TAC", "> TA 100.00 g", "> TA", "u 117570000", "> TI")
+    # A weight with three decimals.
+    power_on(profile(d=3))
+    play("s 256000", "> S")
+    # Z and ZI, D and DW.
+    power_on()
+    play("s 1", "> Z", "> ZI", "u 2", "> ZI")
+    play('> D "Hallo"', '> D "HALLO"', '> D " "', '> D ""', "> DW")
+    # Texts before and after a tare.
+    power_on()
+    play('> D "BEAKER"', "s 70000000", "> T", '> D "C1 100g"')
+    # I0 to I5 and @.
+    power_on(
+        PROFILE_A,
+        text(2, "AX204-Standard 220.0090 g"),
+        text(3, "1.05 1.1.1.17.7"),
+        text(4, "1114350697"),
+        text(5, "12345678A"),
+    )
+    play("> I2", "> I3", "> I4", "> I5", "> @", "> I1", "> I0")
+    play(text(2, "PR5002DR R-Standard 5100.90 g"), "> I2")
+    play(text(4, "0123456789"), "on", "> I4")
+
+
+# ---- "Bench cases"
+
+
+def bench_rounding():
+    part("Bench cases: rounding.")
+    power_on()
+    play("s 14256049", "> S", "s 14256050", "> S")
+    play("s -49", "> S", "s -50", "> S")
+    power_on(profile(k=5))
+    play("s 249", "> S", "s 250", "> S")
+    play("s -249", "> S", "s -250", "> S")
+    power_on(profile(unit="ct", d=3))
+    play("s 99", "> S", "s 100", "> S")
+    power_on(profile(unit="oz", d=5))
+    play("s 28349523", "> S")
+
+
+def bench_capacity():
+    part("Bench cases: capacity and underload.")
+    power_on()
+    play("s 220000000", "> S", "s 220000001", "> S")
+    play("s -1000000", "> S", "s -1000001", "> S")
+    # The ends of 32 bits.
+    play("s 2147483647", "> S", "s -2147483648", "> S")
+
+
+def bench_zero_and_tare():
+    part("Bench cases: zeroing and taring.")
+    # Z and ZI at the ends of R.
+    power_on()
+    play("s 4400000", "> Z", "s 4400001", "> Z", "> ZI")
+    play("s -4400000", "> Z", "s -4400001", "> Z", "> ZI")
+    # T and TI below 0 and above C; at C and at 0.
+    power_on()
+    play("s -1", "> T", "> TI", "s 220000001", "> T", "> TI")
+    play("s 220000000", "> T", "s 0", "> T")
+    # The microgram tare is subtracted, not the printed one.
+    power_on()
+    play("s 10000050", "> T", "s 10000100", "> S")
+    # The typed tares.
+    power_on()
+    play("> TA 100.00 g")
+    play("> TA -1 g", "> TA 220.000001 g", "> TA 100.00 G", "> TA 1. g", "> TA")
+
+
+def bench_waiting_and_lines():
+    part("Bench cases: waiting, and lines.")
+    # The third unstable sample is I, the fourth nothing.
+    power_on()
+    play("> S", "u 1", "u 2", "u 3", "u 4")
+    power_on()
+    play("> SIR")
+    play("> ", "> s", "> S\r", "> S 1", "> " + "S" * 65)
+
+
+def bench_profiles():
+    part("Bench cases: profiles.")
+    power_on(profile(c=99_999_999, u=0, unit="mg", d=3))
+    power_on(profile(c=100_000_000, u=0, unit="mg", d=3))
+    power_on(small(c=1_000_000, unit="GN", d=5, k=1))
+    power_on(small(c=1_000_000, unit="GN", d=5, k=2))
+
+
+def conversation():
+    part("Document 01's conversation.")
+    power_on()
+    play("> S", "s 14256050", "> T", "s 14256100", "> SI", "> Q")
+
+
+def other_lines():
+    part("Lines that are none of the script's: each is one `?` and calls nothing.")
+    # `state` and `on` stand alone, in small letters; `# state` is a comment.
+    play("state ", " state", "State", "STATE", "state x", "state 1")
+    play("states", "stat", "state\r", "state\t", "# state")
+    play("on ", " on", "ON", "of")
+    # Words alone.
+    play("b", "f", ">", "s", "u", "b ", "f ", "s ", "u ", "text", "room", "profile")
+    # Bytes: two hexadecimal digits each, one space before each.
+    play("b 5", "b 530", "b 53 ", "b  53", "b 53  0D", "b 5G", "b 53 0D 0")
+    play("b 44 57 0D 0A x", "f 53,0D", "b 53\r")
+    # Loads: an optional minus and digits.
+    play("s +1", "s 1 ", "s  1", "s --1", "s -", "s 1.0")
+    # Loads: at most 10 digits, within 32 bits.
+    play("s 12345678901", "s 2147483648", "s -2147483649", "s 9999999999")
+    play("u 0x10", "s 1\r")
+    # Rooms: 0 to 1024, at most 10 digits.
+    play("room", "room ", "room -1", "room 1025", "room 4294967296", "room 00000000010", "room 5 ")
+    # Texts: 2 to 5, one space on each side.
+    play("text 1 x", "text 6 x", "text 2", "text 2x", "text 22 x")
+    play("text  2 x", "text -2 x", "Text 2 x")
+    # Profiles: seven values, single spaces.
+    play("profile", "profile 1 1 1 1 g 4", "profile 1 1 1 1 g 4 1 ")
+    play("profile 1 1 1 1 g 4 1 1", "profile  1 1 1 1 g 4 1")
+    # Profiles: one of the seven units.
+    play("profile 1 1 1 1 kg 4 1", "profile 1 1 1 1 G 4 1", "profile 1 1 1 1  4 1")
+    # Profiles: no minus; four values of 32 bits and two of 8.
+    play("profile -1 1 1 1 g 4 1")
+    play("profile 4294967296 1 1 1 g 4 1", "profile 1 4294967296 1 1 g 4 1")
+    play("profile 1 1 4294967296 1 g 4 1", "profile 1 1 1 4294967296 g 4 1")
+    play("profile 1 1 1 1 g 256 1", "profile 1 1 1 1 g 4 256")
+    play("profile 1 1 1 1 g 4 1\r")
+    # A comment not at the line's start, words with no space after them, no words.
+    play(" # no comment", "s1", "u-1", ">S", "bb 53", "quit")
+
+
+def good_forms():
+    part("None of them changed anything, and these forms are good: "
+         "hexadecimal in either case, leading zeros, a minus before zero.")
+    # dW, which is no name, then DW twice.
+    play("b 64 57 0d 0A", "b 44 57 0d 0a", "b 44 57 0D 0A")
+    play("s 0000000007", "s -0", "s -0000000007", "> SI")
+    play("room 0256", "profile 0220000000 01000000 04400000 03 g 04 01", "> TA")
+
+
+def comments_and_last_line():
+    part("Comments and empty lines are passed over, a line of CR alone is not empty; "
+         "the last line of this script has no LF.")
+    play("#", "#on", "# on", "#\r", "", "\r", "state")
+    play("> I5")
+
+
+# ---- the script
+
+
+def head():
+    play("# Plays every rule of document 01 once. "
+         "Its stdout is what the independent implementation prints for it.")
+    play("# Profile A stands at the start: C 220 g, U 1 g, R 4.4 g, W 3, g, 4 decimals, step 1, "
+         "I4 VA-0001, the other texts empty.")
+
+
+SCRIPT = [
+    head,
+    before_power_on,
+    conversation,
+    other_lines,
+    good_forms,
+    # Receiving.
+    order_1_faulty,
+    order_2_no_name,
+    order_3_after_the_name,
+    order_4_reset,
+    order_5_waiting,
+    order_6_wrong_parameters,
+    order_7_no_sample,
+    order_8_own_rules,
+    long_lines,
+    cr_past_the_longest,
+    faulty_in_each_place,
+    faulty_in_long_lines,
+    faulty_throughout,
+    odd_line_ends,
+    lines_in_pieces,
+    near_names,
+    # Bench cases.
+    bench_rounding,
+    bench_capacity,
+    bench_zero_and_tare,
+    bench_waiting_and_lines,
+    bench_profiles,
+    # What each command does.
+    waits,
+    waits_out_of_range,
+    patience,
+    repetition,
+    reset_keeps,
+    zeroing_drops_the_tare,
+    # Rules that only the state shows.
+    display,
+    display_kept,
+    display_while_waiting,
+    whether_it_repeats,
+    exact_weights,
+    line_on_its_way,
+    refused_takes_nothing,
+    manual,
+    # The profile.
+    text_lengths,
+    text_bytes,
+    capacity_limits,
+    margin_and_range_limits,
+    patience_limits,
+    decimals_and_step_limits,
+    finest_steps,
+    widest_nets,
+    printed_ends,
+    # Refusal numbers.
+    refusal_1,
+    refusals_in_order,
+    refusal_2,
+    refusal_3,
+    no_room,
+    comments_and_last_line,
+]
+
+
+def main():
+    for write_part in SCRIPT:
+        write_part()
+    sys.stdout.buffer.write("\n".join(script).encode("latin-1"))
+
+
+if __name__ == "__main__":
+    main()

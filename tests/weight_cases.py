@@ -1,11 +1,13 @@
 #!/usr/bin/env python3
 """The expected output of crates/weight_cases, worked out from document 01 alone.
 
-Units, rounding, the ten characters and typed numbers are written here a second time, in exact fractions and in text. This
-file shares nothing with the Rattle code but the list of cases, which each line of the output repeats.
+Units, rounding, the ten characters and typed numbers are written here a second time, in exact
+fractions and in text. This file shares nothing with the Rattle code but the list of cases, which
+each line of the output repeats.
 
     tests/weight_cases.py            print the list
-    tests/weight_cases.py --check    compare it with crates/weight_cases/stdout; exit status 1 if they differ
+    tests/weight_cases.py --check    compare it with crates/weight_cases/stdout; exit status 1 if
+                                     they differ
 """
 import difflib
 import math
@@ -33,7 +35,8 @@ MOST_DECIMALS = 6
 WIDTH = 10
 BLANK = " " * WIDTH
 
-# Limits of the library, beyond those of the document: nets that are rounded, and typed micrograms that any profile can take.
+# Limits of the library, beyond those of the document: nets that are rounded, and typed micrograms
+# that any profile can take.
 NET_LIMIT = 5_000_000_000
 LARGEST_CAPACITY = 1_000_000_000
 
@@ -113,11 +116,13 @@ def both_signs(unit, decimals, step, size):
 
 
 def net(unit, decimals, step, size):
-    lines.append(f"net {named_resolution(unit, decimals, step)} {size}{both_signs(unit, decimals, step, size)}")
+    fields = both_signs(unit, decimals, step, size)
+    lines.append(f"net {named_resolution(unit, decimals, step)} {size}{fields}")
 
 
 def tie(unit, decimals, step, size):
-    fields = "".join(both_signs(unit, decimals, step, near) for near in (max(size - 1, 0), size, size + 1))
+    sizes = (max(size - 1, 0), size, size + 1)
+    fields = "".join(both_signs(unit, decimals, step, near) for near in sizes)
     lines.append(f"tie {named_resolution(unit, decimals, step)} {size}{fields}")
 
 
@@ -140,7 +145,8 @@ def written(decimals, size):
     line = f"written {decimals} {size}"
     for places in signed_pair(size):
         cells = field(decimals, places)
-        line += (" no" if cells is None else "") + in_brackets(cells or BLANK) + found(cells or BLANK)
+        refused = " no" if cells is None else ""
+        line += refused + in_brackets(cells or BLANK) + found(cells or BLANK)
     lines.append(line)
 
 
@@ -187,7 +193,8 @@ def bench_cases():
 
 # The weights in grams that sources 003 and 000 print in commands and answers, each once.
 MANUAL = """4875.2
-    0.00 1.23 5.25 10.00 12.34 15.00 20.00 67.89 100.00 100.12 114.87 115.23 117.57 129.07 129.08 129.09 200.00 200.01 2000.00
+    0.00 1.23 5.25 10.00 12.34 15.00 20.00 67.89
+    100.00 100.12 114.87 115.23 117.57 129.07 129.08 129.09 200.00 200.01 2000.00
     0.256 14.256 100.000 100.123 123.456 70.0000 200.1234"""
 
 
@@ -199,11 +206,23 @@ def manual_cases():
 
 
 def range_cases():
-    for size in (0, 1, 10**9, 2**31 - 1, 2**31, 2**31 + 2 * 10**9, NET_LIMIT - 1, NET_LIMIT, NET_LIMIT + 1, 2**63 - 1, 2**63):
+    for size in [
+        0, 1, 10**9,
+        2**31 - 1, 2**31, 2**31 + 2 * 10**9,
+        NET_LIMIT - 1, NET_LIMIT, NET_LIMIT + 1,
+        2**63 - 1, 2**63,
+    ]:
         net("g", 4, 1, size)
     for size in (0, 1):
         net("g", 6, 1, size)
-    for resolution in (("mg", 0, 1), ("ct", 4, 1), ("oz", 6, 1), ("ozt", 0, 5), ("GN", 4, 1), ("dwt", 4, 2)):
+    for resolution in [
+        ("mg", 0, 1),
+        ("ct", 4, 1),
+        ("oz", 6, 1),
+        ("ozt", 0, 5),
+        ("GN", 4, 1),
+        ("dwt", 4, 2),
+    ]:
         net(*resolution, NET_LIMIT)
         net(*resolution, NET_LIMIT + 1)
 
@@ -275,10 +294,19 @@ def tie_cases():
 
 
 def typed_cases():
-    for text in ("100.00", "-1", "220.000001", "1."):
-        typed("g", text)
-    for text in """|5|50|5.0|50.0|50.00|50.000|50.0000|50.00000|50.000000|050.000000|0050.000000|0|000.000001|0.123456|0.1234567
-            |.5|.|5..0|5.0.0|5.0.|.5.0|+5| 5|5 |5 0|5,0|5/0|5:0|5e1|5.-1|five""".replace("\n" + " " * 12, "").split("|"):
+    for text in [
+        # Document 01, "Bench cases".
+        "100.00", "-1", "220.000001", "1.",
+        # 0 to 11 characters.
+        "", "5", "50", "5.0", "50.0", "50.00", "50.000", "50.0000", "50.00000", "50.000000",
+        "050.000000", "0050.000000",
+        # Zeros before and after the point, 6 and 7 decimals.
+        "0", "000.000001", "0.123456", "0.1234567",
+        # At most one point, with digits on both sides.
+        ".5", ".", "5..0", "5.0.0", "5.0.", ".5.0",
+        # Other characters.
+        "+5", " 5", "5 ", "5 0", "5,0", "5/0", "5:0", "5e1", "5.-1", "five",
+    ]:
         typed("g", text)
 
 
@@ -303,7 +331,8 @@ def largest_typed(unit):
     whole = str(LARGEST_CAPACITY * 1000 // UNITS[unit])
     decimals = min(MOST_DECIMALS, WIDTH - 1 - len(whole))
     places = (2 * LARGEST_CAPACITY + 1) * 1000 * 10**decimals // (2 * UNITS[unit]) + 2
-    while typed_micrograms(unit, number_text(decimals, places)) >= LARGEST_CAPACITY + Fraction(1, 2):
+    too_large = LARGEST_CAPACITY + Fraction(1, 2)
+    while typed_micrograms(unit, number_text(decimals, places)) >= too_large:
         places -= 1
     return [number_text(decimals, places), number_text(decimals, places + 1)]
 
@@ -333,8 +362,15 @@ def written_cases():
 
 
 def read_cases():
-    for text in """0 7 -7 9999999999 -999999999 1000000000 0.0 0.1 -0.1 14.2560 -14.2560 0.000001 -0.000001 999.999999 -99.999999
-            99999999.9 -9999999.9""".split():
+    for text in [
+        "0", "7", "-7",
+        "9999999999", "-999999999", "1000000000",
+        "0.0", "0.1", "-0.1",
+        "14.2560", "-14.2560",
+        "0.000001", "-0.000001",
+        "999.999999", "-99.999999",
+        "99999999.9", "-9999999.9",
+    ]:
         assert read_field(text.rjust(WIDTH)) is not None, text
         read(text.rjust(WIDTH))
 
@@ -399,7 +435,14 @@ def expected():
 
 def check():
     want, have = expected(), EXPECTED.read_text("latin-1")
-    for line in difflib.unified_diff(have.splitlines(), want.splitlines(), str(EXPECTED), "tests/weight_cases.py", lineterm="", n=0):
+    for line in difflib.unified_diff(
+        have.splitlines(),
+        want.splitlines(),
+        str(EXPECTED),
+        "tests/weight_cases.py",
+        lineterm="",
+        n=0,
+    ):
         print(line)
     if have != want:
         sys.exit("weight_cases: crates/weight_cases/stdout is not what document 01 gives")

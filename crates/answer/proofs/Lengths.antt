@@ -113,7 +113,7 @@ pub listed-length : (last : Bool) (c : ℕ) (t : List ℕ) → length (lineOf (L
 unfolding lineOf listedLine
 listed-length last c t = listed-parts (cond last (ascii "A") (ascii "B")) (digit (levelOf c) ∷ []) (nameOf c) (mark-length last) refl
 
--- all lines of I0 are 231 bytes
+-- all lines of I0: document 01's 231 bytes
 pub list-length : (t : List ℕ) → length (lineOf CommandList t) ≡ 231
 unfolding lineOf listedFrom listedLine
 list-length t = refl

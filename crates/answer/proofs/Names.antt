@@ -8,7 +8,7 @@ use mathlib.Core.Logic.{⊎-elim}
 use native.Mathlib.Nat.{eq-or-lt-of-le, le-of-suc-le-suc, not-suc-le-zero, add-zero, add-suc, suc-add, zero-add}
 use native.Mathlib.Omega.{arith}
 use borrow.Author.Tests.{eqb-true, ne-eqb, leb-true}
-use lib.Dec.{leb, ltb, eqb}
+use lib.Dec.{leb, eqb}
 use lib.ListN.{length, take, getD, List·getD-eq-default}
 use lib.Seq.{take-all}
 use Rattle.text.specs.Ascii.{sameText}
@@ -17,7 +17,7 @@ use Rattle.text.specs.declared.short.ShortText.{ShortText}
 use Rattle.weight.proofs.Allowed.{both-left, both-right}
 use Rattle.text.proofs.Named.{same-is, same-self}
 use Rattle.text.proofs.Cells.{cells-text}
-use Rattle.answer.specs.Commands.{basicNames, names, nameOf, levelOf, placeIn, placeOf, endsOf, allEnds, placeAmong}
+use Rattle.answer.specs.Commands.{names, nameOf, placeIn, placeOf, endsOf, allEnds, placeAmong, commandCount}
 
 -- a word of another length is not the name
 unlike : (v w : List ℕ) → (length v ≡ length w → ⊥) → (b : Bool) → sameText v w ≡ b → false ≡ b
@@ -56,14 +56,6 @@ at-name f (n ∷ ns) (suc c) e = at-name f ns c (both-right (f n) (everyName f n
 pub name-short : (c : ℕ) → length (nameOf c) ≤ 3
 name-short c = leb-true (length (nameOf c)) 3 (at-name (λ n. leb (length n) 3) names c refl)
 
-level-by : (b : Bool) → cond b 0 1 ≤ 1
-level-by true = zero-le
-level-by false = omega arith
-
--- no level is over 1
-pub level-small : (c : ℕ) → levelOf c ≤ 1
-level-small c = level-by (ltb c (length basicNames))
-
 -- one test of the whole table: each name is found at its place, counted from i
 abbrev allFound : (List ℕ → ℕ) → List (List ℕ) → ℕ → Bool
 allFound f [] i = true
@@ -76,12 +68,12 @@ found-in f (n ∷ ns) i (suc c) t h =
     found-in f ns (suc i) c (and-eq-true-iff (eqb (f n) i) (allFound f ns (suc i)) .0 t .1) (le-of-suc-le-suc h) ∙ suc-add i c ∙ sym (add-suc i c)
 
 -- a command's name is found as that command
-pub name-found : (c : ℕ) → c < 18 → placeOf (nameOf c) ≡ c
+pub name-found : (c : ℕ) → c < commandCount → placeOf (nameOf c) ≡ c
 unfolding placeOf placeIn
 name-found c h = found-in placeOf names 0 c refl h ∙ zero-add c
 
 -- and so it is by its ends
-ends-found : (c : ℕ) → c < 18 → placeAmong (allEnds names) (endsOf (nameOf c)) ≡ c
+ends-found : (c : ℕ) → c < commandCount → placeAmong (allEnds names) (endsOf (nameOf c)) ≡ c
 unfolding placeAmong endsOf
 ends-found c h = found-in (λ n. placeAmong (allEnds names) (endsOf n)) names 0 c refl h ∙ zero-add c
 
@@ -97,7 +89,7 @@ name-in [] w h = absurd (not-suc-le-zero h)
 name-in (n ∷ ns) w h = name-by (sameText w n) w n ns refl (name-in ns w) h
 
 -- only a command's own name is found as it
-pub found-name : (w : List ℕ) → placeOf w < 18 → nameOf (placeOf w) ≡ w
+pub found-name : (w : List ℕ) → placeOf w < commandCount → nameOf (placeOf w) ≡ w
 unfolding placeOf
 found-name w h = name-in names w h
 
@@ -111,7 +103,7 @@ limit-in [] w = zero-le
 limit-in (n ∷ ns) w = limit-by (sameText w n) (placeIn ns w) (length ns) (limit-in ns w)
 
 -- a place is at most 18, which is no name's
-pub place-limit : (w : List ℕ) → placeOf w ≤ 18
+pub place-limit : (w : List ℕ) → placeOf w ≤ commandCount
 unfolding placeOf
 place-limit w = limit-in names w
 
@@ -141,7 +133,7 @@ unfolding placeAmong
 not-among [] k d = refl
 not-among (x ∷ xs) k d = rw (ne-eqb k x (d .0)) (ap suc (not-among xs k (d .1)))
 
-pub no-ends : (k : ℕ) → NoneIn (allEnds names) k Unit → placeAmong (allEnds names) k ≡ 18
+pub no-ends : (k : ℕ) → NoneIn (allEnds names) k Unit → placeAmong (allEnds names) k ≡ commandCount
 no-ends k p = not-among (allEnds names) k (none-differs (allEnds names) k Unit p .1)
 
 among-limit : (xs : List ℕ) (k : ℕ) → placeAmong xs k ≤ length xs
@@ -150,7 +142,7 @@ among-limit [] k = zero-le
 among-limit (x ∷ xs) k = limit-by (eqb k x) (placeAmong xs k) (length xs) (among-limit xs k)
 
 -- no word, no name
-no-word : placeOf (nameOf 18) ≡ 18
+no-word : placeOf (nameOf commandCount) ≡ commandCount
 unfolding placeOf placeIn
 no-word = refl
 
@@ -158,14 +150,14 @@ no-word = refl
 pub own-name : (w : List ℕ) (c : ℕ) → c ≡ placeAmong (allEnds names) (endsOf w) → sameText w (nameOf c) ≡ true → c ≡ placeOf w
 own-name w c e s =
     let same : w ≡ nameOf c = same-is w (nameOf c) s in
-    let within : c ≤ 18 = rw e (among-limit (allEnds names) (endsOf w)) in
+    let within : c ≤ commandCount = rw e (among-limit (allEnds names) (endsOf w)) in
     ⊎-elim
     (λ last. last ∙ sym (ap placeOf (same ∙ ap nameOf last) ∙ no-word))
     (λ h. sym (ap placeOf same ∙ name-found c h))
     (eq-or-lt-of-le within)
 
 -- a word that is not the name with its ends is none
-pub other-word : (w : List ℕ) (c : ℕ) → c ≡ placeAmong (allEnds names) (endsOf w) → sameText w (nameOf c) ≡ false → 18 ≡ placeOf w
+pub other-word : (w : List ℕ) (c : ℕ) → c ≡ placeAmong (allEnds names) (endsOf w) → sameText w (nameOf c) ≡ false → commandCount ≡ placeOf w
 other-word w c e s =
     ⊎-elim
     (λ last. sym last)

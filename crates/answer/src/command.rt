@@ -3,7 +3,7 @@ ghost use mathlib.Core.Path.{_≡_};
 ghost use mathlib.Core.List.{[], _∷_};
 ghost use Prim.Native.Nat.{_+_, _*_, _≤_};
 ghost use lib.ListN.{length};
-ghost use Rattle.answer.specs.Commands.{nameOf, levelOf, names, placeOf, endsOf, allEnds, placeAmong};
+ghost use Rattle.answer.specs.Commands.{nameOf, levelOf, kindOf, takesParameters, needsSample, mayWait, names, placeOf, endsOf, allEnds, placeAmong};
 ghost use Rattle.text.specs.Ascii.{sameText};
 ghost use Rattle.text.specs.Short.{shortOf};
 ghost use Rattle.text.specs.declared.short.ShortText.{ShortText};
@@ -12,41 +12,62 @@ use text::same_text;
 
 pub const I0: u8 = 0;
 
-pub const I1: u8 = 1;
+pub const I1: u8 = I0 + 1;
 
-pub const I2: u8 = 2;
+pub const I2: u8 = I1 + 1;
 
-pub const I3: u8 = 3;
+pub const I3: u8 = I2 + 1;
 
-pub const I4: u8 = 4;
+pub const I4: u8 = I3 + 1;
 
-pub const I5: u8 = 5;
+pub const I5: u8 = I4 + 1;
 
-pub const S: u8 = 6;
+pub const S: u8 = I5 + 1;
 
-pub const SI: u8 = 7;
+pub const SI: u8 = S + 1;
 
-pub const SIR: u8 = 8;
+pub const SIR: u8 = SI + 1;
 
-pub const Z: u8 = 9;
+pub const Z: u8 = SIR + 1;
 
-pub const ZI: u8 = 10;
+pub const ZI: u8 = Z + 1;
 
-pub const RESET: u8 = 11;
+pub const RESET: u8 = ZI + 1;
 
-pub const D: u8 = 12;
+pub const D: u8 = RESET + 1;
 
-pub const DW: u8 = 13;
+pub const DW: u8 = D + 1;
 
-pub const T: u8 = 14;
+pub const T: u8 = DW + 1;
 
-pub const TA: u8 = 15;
+pub const TA: u8 = T + 1;
 
-pub const TAC: u8 = 16;
+pub const TAC: u8 = TA + 1;
 
-pub const TI: u8 = 17;
+pub const TI: u8 = TAC + 1;
+
+pub const LAST: u8 = TI;
+
 // The place of what is no command: as many as there are.
-pub const NONE: u8 = 18;
+pub const NONE: u8 = LAST + 1;
+
+// A line of I0 has its name and this many bytes; all of them together have the names' letters, too.
+pub const LISTED_LENGTH: usize = 11;
+
+const LETTERS: usize = 33;
+
+pub const LIST_LENGTH: usize = NONE as usize * LISTED_LENGTH + LETTERS;
+
+// What a command does. `Unknown` is what is no command's.
+pub enum Kind {
+    Informs,
+    Weighs,
+    Zeroes,
+    Resets,
+    Shows,
+    Tares,
+    Unknown,
+}
 
 // The cells of a name one by one, and its length: the prover finds a match that makes arrays costly.
 struct Letters(u8, u8, u8, usize);
@@ -103,6 +124,49 @@ pub fn level_of(command: u8) -> u8
         return 0;
     }
     1
+}
+
+// The commands of a kind stand together in I0's order.
+pub fn kind_of(command: u8) -> Kind
+    ensures { λ r. ⌜ r ≡ kindOf command ⌝ }
+{
+    if command <= I5 {
+        return Kind::Informs;
+    }
+    if command <= SIR {
+        return Kind::Weighs;
+    }
+    if command <= ZI {
+        return Kind::Zeroes;
+    }
+    if command <= RESET {
+        return Kind::Resets;
+    }
+    if command <= DW {
+        return Kind::Shows;
+    }
+    if command <= TI {
+        return Kind::Tares;
+    }
+    Kind::Unknown
+}
+
+pub fn takes_parameters(command: u8) -> bool
+    ensures { λ r. ⌜ r ≡ takesParameters command ⌝ }
+{
+    (command == D) | (command == TA)
+}
+
+pub fn needs_sample(command: u8) -> bool
+    ensures { λ r. ⌜ r ≡ needsSample command ⌝ }
+{
+    (command == SI) | (command == SIR) | (command == ZI) | (command == TI)
+}
+
+pub fn may_wait(command: u8) -> bool
+    ensures { λ r. ⌜ r ≡ mayWait command ⌝ }
+{
+    (command == S) | (command == Z) | (command == T)
 }
 
 // The whole word: one that goes on after the name is another word.

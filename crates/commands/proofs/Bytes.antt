@@ -7,9 +7,8 @@ use Rattle.answer.specs.declared.answer.Answer.the-variants as answers
 use Rattle.model.specs.declared.profile.Profile.{Profile}
 use Rattle.waiting.specs.declared.react.Reaction.{Reaction}
 use Rattle.model.specs.declared.state.State.{State}
-use Rattle.commands.specs.Reactions.{byteReaction, lineReaction, performed}
+use Rattle.commands.specs.Reactions.{byteReaction, lineReaction, performed, situationOf}
 use Rattle.waiting.specs.Waits.{reaction, withLine}
-use Rattle.model.specs.States.{isPending}
 use Rattle.line.specs.declared.judge.Verdict.{Verdict}
 use Rattle.line.specs.declared.judge.Verdict.the-variants.{Refused, Reset, Busy, Wrong, NoSample, Run, Preset, Show}
 use Rattle.line.specs.declared.receive.Line.{Line}
@@ -31,13 +30,13 @@ performed-marked p s l (Show n) = refl
 abbrev ended : Profile → State → Line → Reaction
 ended p s l =
     performed p (withLine s (clearedLine l)) l
-    (judgement (p .capacity) (p .resolution .unit) l (isPending (s .waiting .pending)) (s .weighing .sampled))
+    (judgement (situationOf p s) l)
 
 ended-marked : (p : Profile) (s : State) → ended p s (withReturn (s .line) false) ≡ lineReaction p s
 unfolding judgement
 ended-marked p s =
     performed-marked p (withLine s (clearedLine (s .line))) (s .line)
-    (judgement (p .capacity) (p .resolution .unit) (s .line) (isPending (s .waiting .pending)) (s .weighing .sampled))
+    (judgement (situationOf p s) (s .line))
 
 ended-line : (l : Line) (b : ℕ) (bad : Bool) → receivedByte l b bad .ended ≡ true → receivedByte l b bad .line ≡ withReturn l false
 unfolding receivedByte

@@ -1,19 +1,18 @@
 -- No verdict shows more than 20 bytes.
 -- Assumes nothing.
-use Prim.Native.Nat.{ℕ}
 use mathlib.Core.Path.{_≡_, refl}
-use mathlib.Core.Bool.{Bool, true}
+use mathlib.Core.Bool.{true}
 use borrow.Author.Tests.{le-leb}
 use Rattle.commands.specs.Shown.{showsShort}
+use Rattle.line.specs.declared.judge.Situation.{Situation}
 use Rattle.line.specs.declared.judge.Verdict.{Verdict}
 use Rattle.line.specs.declared.judge.Verdict.the-variants.{Refused, Reset, Busy, Wrong, NoSample, Run, Preset, Show}
 use Rattle.line.specs.declared.receive.Line.{Line}
 use Rattle.line.specs.Judging.{judgement}
 use Rattle.line.proofs.Verdicts.{show-short}
-use Rattle.weight.specs.declared.units.WeightUnit.{WeightUnit}
 
-module _ (capacity : ℕ) (u : WeightUnit) (l : Line) (waiting sampled : Bool) where
-  short-by : (v : Verdict) → judgement capacity u l waiting sampled ≡ v → showsShort v ≡ true
+module _ (j : Situation) (l : Line) where
+  short-by : (v : Verdict) → judgement j l ≡ v → showsShort v ≡ true
   short-by (Refused e) h = refl
   short-by Reset h = refl
   short-by (Busy c) h = refl
@@ -21,7 +20,7 @@ module _ (capacity : ℕ) (u : WeightUnit) (l : Line) (waiting sampled : Bool) w
   short-by (NoSample c) h = refl
   short-by (Run c) h = refl
   short-by (Preset m) h = refl
-  short-by (Show n) h = le-leb n 20 (show-short capacity u l waiting sampled h)
+  short-by (Show n) h = le-leb n 20 (show-short j l h)
 
-  pub shows-short : showsShort (judgement capacity u l waiting sampled) ≡ true
-  shows-short = short-by (judgement capacity u l waiting sampled) refl
+  pub shows-short : showsShort (judgement j l) ≡ true
+  shows-short = short-by (judgement j l) refl

@@ -1,56 +1,102 @@
 -- One law for each way through a command's own rule: what the tests have shown gives the meaning.
 -- Assumes nothing.
-use Prim.Native.Nat.{ℕ, _≤_, _<_}
-use mathlib.Core.Path.{_≡_}
-use borrow.Author.Tests.{le-leb, lt-leb, eq-eqb, ne-eqb}
+use Prim.Native.Nat.{ℕ}
+use mathlib.Core.Path.{_≡_, sym, _∙_}
+use mathlib.Core.Bool.{Bool, true, false}
+use borrow.Author.Tests.{eq-eqb, ne-eqb}
+use Rattle.answer.specs.Commands.{kindOf, mayWait, isSIR, placeZI, placeDW, placeT, placeTA, placeTAC, placeTI}
+use Rattle.answer.specs.declared.command.Kind.{Kind}
+use Rattle.answer.specs.declared.command.Kind.the-variants.{Informs, Weighs, Zeroes, Resets, Shows, Tares, Unknown}
 use Rattle.answer.specs.declared.answer.Answer.{Answer}
 use Rattle.answer.specs.declared.answer.Answer.the-variants.{Plain}
+use Rattle.answer.specs.declared.answer.Status.{Status}
 use Rattle.answer.specs.declared.answer.Status.the-variants.{A}
 use Rattle.model.specs.declared.profile.Profile.{Profile}
 use Rattle.waiting.specs.declared.react.Reaction.{Reaction}
-use Rattle.model.specs.declared.state.Pending.the-variants.{Tare}
+use Rattle.model.specs.declared.state.Pending.the-variants.{Weigh, Zero, Tare}
 use Rattle.model.specs.declared.state.State.{State}
 use Rattle.weighing.specs.declared.weighing.Measured.{Measured}
 use Rattle.model.specs.declared.weighing.Weighing.{Weighing}
-use Rattle.commands.specs.Reactions.{informed, run, showing, taring, weighing, zeroing}
-use Rattle.waiting.specs.Waits.{begun, measuredReaction, reaction, withWeighing}
-use Rattle.weighing.specs.Weighings.{headOf, tareAnswer, tared, withTare}
+use Rattle.commands.specs.Reactions.{informed, run, runAs, showing, showingWeight, taring, unanswered, weighing, zeroing}
+use Rattle.waiting.specs.Waits.{begun, measuredReaction, reaction, withRepeating, withWeighing}
+use Rattle.weighing.specs.Weighings.{headOf, stability, tareAnswer, tared, weighed, withTare, zeroed}
+
+-- D and DW
+module _ (s : State) (c : ℕ) {r : Reaction} where
+  pub showing-weight : c ≡ placeDW → r ≡ showingWeight s → r ≡ showing s c
+  unfolding showing
+  showing-weight d e = rw (e, eq-eqb c placeDW d)
+
+  pub showing-nothing : (c ≡ placeDW → ⊥) → r ≡ unanswered s → r ≡ showing s c
+  unfolding showing
+  showing-nothing d e = rw (e, ne-eqb c placeDW d)
 
 module _ (p : Profile) (s : State) (c : ℕ) {r : Reaction} where
-  pub run-informed : c ≤ 5 → r ≡ informed s c → r ≡ run p s c
-  unfolding run
-  run-informed i e = rw (e, le-leb c 5 i)
+  -- by the kind that was found
+  module _ {k : Kind} (found : k ≡ kindOf c) where
+    run-as : {j : Kind} → k ≡ j → r ≡ runAs j p s c → r ≡ run p s c
+    unfolding run
+    run-as is e = rw (← found, is) e
 
-  pub run-weighing : 5 < c → c ≤ 8 → r ≡ weighing p s c → r ≡ run p s c
-  unfolding run
-  run-weighing i w e = rw (e, lt-leb c 5 i, le-leb c 8 w)
+    pub run-informed : k ≡ Informs → r ≡ informed s c → r ≡ run p s c
+    run-informed = run-as
 
-  pub run-zeroing : 5 < c → 8 < c → c ≤ 10 → r ≡ zeroing p s c → r ≡ run p s c
-  unfolding run
-  run-zeroing i w z e = rw (e, lt-leb c 5 i, lt-leb c 8 w, le-leb c 10 z)
+    pub run-weighing : k ≡ Weighs → r ≡ weighing p s c → r ≡ run p s c
+    run-weighing = run-as
 
-  pub run-showing : 5 < c → 8 < c → 10 < c → c ≤ 13 → r ≡ showing s → r ≡ run p s c
-  unfolding run
-  run-showing i w z d e = rw (e, lt-leb c 5 i, lt-leb c 8 w, lt-leb c 10 z, le-leb c 13 d)
+    pub run-zeroing : k ≡ Zeroes → r ≡ zeroing p s c → r ≡ run p s c
+    run-zeroing = run-as
 
-  pub run-taring : 5 < c → 8 < c → 10 < c → 13 < c → r ≡ taring p s c → r ≡ run p s c
-  unfolding run
-  run-taring i w z d e = rw (e, lt-leb c 5 i, lt-leb c 8 w, lt-leb c 10 z, lt-leb c 13 d)
+    pub run-resetting : k ≡ Resets → r ≡ unanswered s → r ≡ run p s c
+    run-resetting = run-as
 
-  pub taring-begun : c ≡ 14 → r ≡ begun p s Tare → r ≡ taring p s c
+    pub run-showing : k ≡ Shows → r ≡ showing s c → r ≡ run p s c
+    run-showing = run-as
+
+    pub run-taring : k ≡ Tares → r ≡ taring p s c → r ≡ run p s c
+    run-taring = run-as
+
+    pub run-unknown : k ≡ Unknown → r ≡ unanswered s → r ≡ run p s c
+    run-unknown = run-as
+
+  -- S and Z wait, SI, SIR and ZI do not
+  module _ {w : Bool} (asked : w ≡ mayWait c) where
+    pub weighing-begun : {t : State} → w ≡ true → t ≡ withRepeating s false → r ≡ begun p t Weigh → r ≡ weighing p s c
+    unfolding weighing
+    weighing-begun e t g = rw (g, t, sym asked ∙ e)
+
+    pub weighing-at-once : {t : State} {a : Answer} → w ≡ false → t ≡ withRepeating s (isSIR c) → a ≡ weighed p (s .weighing) → r ≡ reaction t a
+        → r ≡ weighing p s c
+    unfolding weighing
+    weighing-at-once e t a g = rw (g, t, a, sym asked ∙ e)
+
+    pub zeroing-begun : w ≡ true → r ≡ begun p s Zero → r ≡ zeroing p s c
+    unfolding zeroing
+    zeroing-begun e g = rw (g, sym asked ∙ e)
+
+    pub zeroing-at-once : {b : Status} {m : Measured} → w ≡ false → b ≡ stability (s .weighing) → m ≡ zeroed p (s .weighing) placeZI b
+        → r ≡ measuredReaction s m → r ≡ zeroing p s c
+    unfolding zeroing
+    zeroing-at-once e b m g = rw (g, m, b, sym asked ∙ e)
+
+  pub taring-begun : c ≡ placeT → r ≡ begun p s Tare → r ≡ taring p s c
   unfolding taring
-  taring-begun t e = rw (e, eq-eqb c 14 t)
+  taring-begun t e = rw (e, eq-eqb c placeT t)
 
-  pub taring-at-once : {m : Measured} → (c ≡ 14 → ⊥) → c ≡ 17 → m ≡ tared p (s .weighing) 17 → r ≡ measuredReaction s m → r ≡ taring p s c
+  pub taring-at-once : {m : Measured} → (c ≡ placeT → ⊥) → c ≡ placeTI → m ≡ tared p (s .weighing) placeTI → r ≡ measuredReaction s m → r ≡ taring p s c
   unfolding taring
-  taring-at-once t ti m e = rw (e, m, ne-eqb c 14 t, eq-eqb c 17 ti)
+  taring-at-once t ti m e = rw (e, m, ne-eqb c placeT t, eq-eqb c placeTI ti)
 
-  pub taring-cleared : {t : State} {w : Weighing} {a : Answer} → (c ≡ 14 → ⊥) → (c ≡ 17 → ⊥) → c ≡ 16
-      → w ≡ withTare (s .weighing) 0 → t ≡ withWeighing s w → a ≡ Plain (headOf 16 A) → r ≡ reaction t a → r ≡ taring p s c
+  pub taring-cleared : {t : State} {w : Weighing} {a : Answer} → (c ≡ placeT → ⊥) → (c ≡ placeTI → ⊥) → c ≡ placeTAC
+      → w ≡ withTare (s .weighing) 0 → t ≡ withWeighing s w → a ≡ Plain (headOf placeTAC A) → r ≡ reaction t a → r ≡ taring p s c
   unfolding taring
-  taring-cleared t ti tac w v a e = rw (e, v, w, a, ne-eqb c 14 t, ne-eqb c 17 ti, eq-eqb c 16 tac)
+  taring-cleared t ti tac w v a e = rw (e, v, w, a, ne-eqb c placeT t, ne-eqb c placeTI ti, eq-eqb c placeTAC tac)
 
-  pub taring-asked : {a : Answer} → (c ≡ 14 → ⊥) → (c ≡ 17 → ⊥) → (c ≡ 16 → ⊥)
-      → a ≡ tareAnswer p (s .weighing .tare .0) → r ≡ reaction s a → r ≡ taring p s c
-  unfolding taring
-  taring-asked t ti tac a e = rw (e, a, ne-eqb c 14 t, ne-eqb c 17 ti, ne-eqb c 16 tac)
+  module _ (t : c ≡ placeT → ⊥) (ti : c ≡ placeTI → ⊥) (tac : c ≡ placeTAC → ⊥) where
+    pub taring-asked : {a : Answer} → c ≡ placeTA → a ≡ tareAnswer p (s .weighing .tare .0) → r ≡ reaction s a → r ≡ taring p s c
+    unfolding taring
+    taring-asked ta a e = rw (e, a, ne-eqb c placeT t, ne-eqb c placeTI ti, ne-eqb c placeTAC tac, eq-eqb c placeTA ta)
+
+    pub taring-nothing : (c ≡ placeTA → ⊥) → r ≡ unanswered s → r ≡ taring p s c
+    unfolding taring
+    taring-nothing ta e = rw (e, ne-eqb c placeT t, ne-eqb c placeTI ti, ne-eqb c placeTAC tac, ne-eqb c placeTA ta)

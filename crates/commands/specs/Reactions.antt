@@ -3,15 +3,18 @@
 use Prim.Native.Nat.{ℕ}
 use mathlib.Core.Bool.{Bool, true, false, cond, _||_}
 use mathlib.Core.List.{_++_}
-use lib.Dec.{leb, eqb}
 use lib.ListN.{take, drop}
+use Rattle.answer.specs.Commands.{kindOf, mayWait, isI0, isI1, isSI, isSIR, isDW, isT, isTA, isTAC, isTI, placeI4, placeS, placeZI, placeD, placeDW, placeTAC, placeTI}
+use Rattle.answer.specs.declared.command.Kind.{Kind}
+use Rattle.answer.specs.declared.command.Kind.the-variants.{Informs, Weighs, Zeroes, Resets, Shows, Tares, Unknown}
 use Rattle.answer.specs.declared.answer.Answer.the-variants.{Plain, CommandList, Versions}
 use Rattle.answer.specs.declared.answer.Answer.the-variants as answers
 use Rattle.answer.specs.declared.answer.Status.the-variants.{A, I, L}
+use Rattle.line.specs.declared.judge.Situation.{Situation}
 use Rattle.line.specs.declared.judge.Verdict.{Verdict}
 use Rattle.line.specs.declared.judge.Verdict.the-variants.{Refused, Reset, Busy, Wrong, NoSample, Run, Preset, Show}
 use Rattle.line.specs.declared.receive.Line.{Line}
-use Rattle.line.specs.Judging.{isSI, isSIR, judgement}
+use Rattle.line.specs.Judging.{judgement}
 use Rattle.line.specs.Receiving.{clearedLine, receivedByte}
 use Rattle.model.specs.declared.profile.Profile.{Profile}
 use Rattle.model.specs.declared.state.Pending.the-variants.{Weigh, Zero, Tare}
@@ -20,47 +23,60 @@ use Rattle.model.specs.declared.state.State.{State}
 use Rattle.model.specs.States.{isPending}
 use Rattle.waiting.specs.declared.react.Reaction.{Reaction}
 use Rattle.waiting.specs.Waits.{withLine, withWeighing, withRepeating, withDisplay, reaction, chosenReaction, measuredReaction, notWaiting, begun}
-use Rattle.weighing.specs.Weighings.{placeS, placeZI, placeD, placeDW, placeT, placeTAC, placeTI, headOf, stability, weighed, withTare, zeroed, tared, tareAnswer}
+use Rattle.weighing.specs.Weighings.{headOf, stability, weighed, withTare, zeroed, tared, tareAnswer}
 
--- ---- a command's own rule, by its place in I0's order
+-- ---- a command's own rule, by its kind
 
 -- I0 to I5
 abbrev pub informed : State → ℕ → Reaction
-informed s c = reaction s (cond (eqb c 0) CommandList (cond (eqb c 1) Versions (answers.Text c)))
+informed s c = reaction s (cond (isI0 c) CommandList (cond (isI1 c) Versions (answers.Text c)))
 
--- S and SI end a repetition; SIR starts one
+-- S waits, SI and SIR take the latest sample; S and SI end a repetition, SIR starts one
 unfoldable pub weighing : Profile → State → ℕ → Reaction
 weighing p s c =
-    chosenReaction (isSI c || isSIR c)
-    (reaction (withRepeating s (isSIR c)) (weighed p (s .weighing)))
+    chosenReaction (mayWait c)
     (begun p (withRepeating s false) Weigh)
+    (reaction (withRepeating s (isSIR c)) (weighed p (s .weighing)))
 
--- Z, ZI
+-- Z waits, ZI takes the latest sample
 unfoldable pub zeroing : Profile → State → ℕ → Reaction
-zeroing p s c = chosenReaction (eqb c placeZI) (measuredReaction s (zeroed p (s .weighing) placeZI (stability (s .weighing)))) (begun p s Zero)
+zeroing p s c = chosenReaction (mayWait c) (begun p s Zero) (measuredReaction s (zeroed p (s .weighing) placeZI (stability (s .weighing))))
 
 abbrev pub weightShown : Display → Display
 weightShown d = record { shown = false; text = d .text }
 
 -- DW: the weight is shown
-abbrev pub showing : State → Reaction
-showing s = reaction (withDisplay s (weightShown (s .display))) (Plain (headOf placeDW A))
+abbrev pub showingWeight : State → Reaction
+showingWeight s = reaction (withDisplay s (weightShown (s .display))) (Plain (headOf placeDW A))
 
--- T, TA alone, TAC, TI
+-- what has no own rule is not answered: @, which row 4 carries out, D, whose verdict has its text, and what is no command
+abbrev pub unanswered : State → Reaction
+unanswered s = reaction s answers.Nothing
+
+-- D and DW
+unfoldable pub showing : State → ℕ → Reaction
+showing s c = chosenReaction (isDW c) (showingWeight s) (unanswered s)
+
+-- T, TI, TAC, TA alone
 unfoldable pub taring : Profile → State → ℕ → Reaction
 taring p s c =
-    chosenReaction (eqb c placeT) (begun p s Tare)
-    (chosenReaction (eqb c placeTI) (measuredReaction s (tared p (s .weighing) placeTI))
-    (chosenReaction (eqb c placeTAC)
+    chosenReaction (isT c) (begun p s Tare)
+    (chosenReaction (isTI c) (measuredReaction s (tared p (s .weighing) placeTI))
+    (chosenReaction (isTAC c)
     (reaction (withWeighing s (withTare (s .weighing) 0)) (Plain (headOf placeTAC A)))
-    (reaction s (tareAnswer p (s .weighing .tare .0)))))
+    (chosenReaction (isTA c) (reaction s (tareAnswer p (s .weighing .tare .0))) (unanswered s))))
+
+abbrev pub runAs : Kind → Profile → State → ℕ → Reaction
+runAs Informs p s c = informed s c
+runAs Weighs p s c = weighing p s c
+runAs Zeroes p s c = zeroing p s c
+runAs Resets p s c = unanswered s
+runAs Shows p s c = showing s c
+runAs Tares p s c = taring p s c
+runAs Unknown p s c = unanswered s
 
 unfoldable pub run : Profile → State → ℕ → Reaction
-run p s c =
-    chosenReaction (leb c 5) (informed s c)
-    (chosenReaction (leb c 8) (weighing p s c)
-    (chosenReaction (leb c 10) (zeroing p s c)
-    (chosenReaction (leb c placeDW) (showing s) (taring p s c))))
+run p s c = runAs (kindOf c) p s c
 
 -- ---- a finished line
 
@@ -87,7 +103,7 @@ textShown d l n =
 -- s is the state with its line cleared, l the finished line
 abbrev pub performed : Profile → State → Line → Verdict → Reaction
 performed p s l (Refused e) = reaction s (answers.Refused e)
-performed p s l Reset = reaction (resetState s) (answers.Text 4)
+performed p s l Reset = reaction (resetState s) (answers.Text placeI4)
 performed p s l (Busy c) = reaction s (Plain (headOf (identificationOf c) I))
 performed p s l (Wrong c) = reaction s (Plain (headOf c L))
 performed p s l (NoSample c) = reaction s (Plain (headOf (identificationOf c) I))
@@ -97,11 +113,14 @@ performed p s l (Show n) = reaction (withDisplay s (textShown (s .display) l n))
 
 -- ---- a byte
 
+-- what the judging table asks of the device
+abbrev pub situationOf : Profile → State → Situation
+situationOf p s =
+    record { capacity = p .capacity; resolution = p .resolution; waiting = isPending (s .waiting .pending); sampled = s .weighing .sampled }
+
 -- the line of the state is ended: it is judged, and the next one starts empty
 abbrev pub lineReaction : Profile → State → Reaction
-lineReaction p s =
-    performed p (withLine s (clearedLine (s .line))) (s .line)
-    (judgement (p .capacity) (p .resolution .unit) (s .line) (isPending (s .waiting .pending)) (s .weighing .sampled))
+lineReaction p s = performed p (withLine s (clearedLine (s .line))) (s .line) (judgement (situationOf p s) (s .line))
 
 unfoldable pub byteReaction : Profile → State → ℕ → Bool → Reaction
 byteReaction p s b bad =

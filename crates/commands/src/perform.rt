@@ -4,6 +4,7 @@ ghost use mathlib.Core.Bool.{true};
 ghost use mathlib.Core.List.{_++_};
 ghost use Prim.Native.Nat.{_≤_};
 ghost use lib.ListN.{length, drop};
+ghost use Rattle.answer.specs.Commands.{placeD};
 ghost use Rattle.commands.specs.Shown.{showsShort};
 ghost use Rattle.commands.specs.Reactions as meaning;
 ghost use Rattle.waiting.specs.Waits as waits;
@@ -18,6 +19,7 @@ use answer::SI;
 use answer::SIR;
 use answer::Status;
 use line::Line;
+use line::Situation;
 use line::Verdict;
 use line::cleared;
 use line::judge_line;
@@ -105,7 +107,7 @@ fn text_shown(display: Display, line: Line, len: u8) -> Display
 // D with a text.
 fn show_text(state: State, line: Line, len: u8) -> Reaction
     requires { ⌜ len ≤ 20 ⌝ }
-    ensures { λ r. ⌜ r ≡ waits.reaction (waits.withDisplay state (meaning.textShown (state .display) line len)) (Answer.Plain (weights.headOf weights.placeD Status.A)) ⌝ }
+    ensures { λ r. ⌜ r ≡ waits.reaction (waits.withDisplay state (meaning.textShown (state .display) line len)) (Answer.Plain (weights.headOf placeD Status.A)) ⌝ }
 {
     let display = state.display;
     answered(
@@ -142,22 +144,27 @@ fn performed(profile: Profile, state: State, line: Line, verdict: Verdict) -> Re
     }
 }
 
+// What the judging table asks of the device.
+fn situation_of(profile: Profile, state: State) -> Situation
+    ensures { λ r. ⌜ r ≡ meaning.situationOf profile state ⌝ }
+{
+    let resolution = profile.resolution;
+    let weighing = state.weighing;
+    let waiting = state.waiting;
+    let pending = waiting.pending;
+    Situation {
+        capacity: profile.capacity,
+        resolution,
+        waiting: is_pending(pending),
+        sampled: weighing.sampled,
+    }
+}
+
 // The line of the state is ended: it is judged, and the next one starts empty.
 pub fn line_reaction(profile: Profile, state: State) -> Reaction
     ensures { λ r. ⌜ r ≡ meaning.lineReaction profile state ⌝ }
 {
     let line = state.line;
-    let resolution = profile.resolution;
-    let unit = resolution.unit;
-    let weighing = state.weighing;
-    let waiting = state.waiting;
-    let pending = waiting.pending;
-    let verdict = judge_line(
-        profile.capacity,
-        unit,
-        line,
-        is_pending(pending),
-        weighing.sampled,
-    );
+    let verdict = judge_line(situation_of(profile, state), line);
     performed(profile, with_line(state, cleared(line)), line, verdict)
 }

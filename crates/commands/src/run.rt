@@ -1,20 +1,22 @@
-// A command's own rule, by its place in I0's order.
+// A command's own rule, by its kind.
 ghost use mathlib.Core.Path.{_≡_};
 ghost use mathlib.Core.Bool.{cond};
-ghost use lib.Dec.{eqb};
+ghost use Rattle.answer.specs.Commands.{isI0, isI1};
 ghost use Rattle.commands.specs.Reactions as meaning;
 use answer::Answer;
 use answer::DW;
 use answer::I0;
 use answer::I1;
-use answer::I5;
-use answer::SI;
+use answer::Kind;
 use answer::SIR;
 use answer::Status;
 use answer::T;
+use answer::TA;
 use answer::TAC;
 use answer::TI;
 use answer::ZI;
+use answer::kind_of;
+use answer::may_wait;
 use model::Display;
 use model::Pending;
 use model::Profile;
@@ -36,7 +38,7 @@ use weighing::zeroed;
 use weight::NO_TARE;
 
 fn information(command: u8) -> Answer
-    ensures { λ r. ⌜ r ≡ cond (eqb command 0) Answer.CommandList (cond (eqb command 1) Answer.Versions (Answer.Text command)) ⌝ }
+    ensures { λ r. ⌜ r ≡ cond (isI0 command) Answer.CommandList (cond (isI1 command) Answer.Versions (Answer.Text command)) ⌝ }
 {
     if command == I0 {
         return Answer::CommandList;
@@ -58,24 +60,23 @@ fn informed(state: State, command: u8) -> Reaction
 fn run_weighing(profile: Profile, state: State, command: u8) -> Reaction
     ensures { λ r. ⌜ r ≡ meaning.weighing profile state command ⌝ }
 {
-    let repeats = command == SIR;
-    let at_once = (command == SI) | repeats;
-    if at_once {
-        let weighing = state.weighing;
-        return answered(with_repeating(state, repeats), weighed(profile, weighing));
+    if may_wait(command) {
+        return begun(profile, with_repeating(state, false), Pending::Weigh);
     }
-    begun(profile, with_repeating(state, false), Pending::Weigh)
+    let weighing = state.weighing;
+    let repeats = command == SIR;
+    answered(with_repeating(state, repeats), weighed(profile, weighing))
 }
 
 // Z and ZI.
 fn run_zeroing(profile: Profile, state: State, command: u8) -> Reaction
     ensures { λ r. ⌜ r ≡ meaning.zeroing profile state command ⌝ }
 {
-    if command == ZI {
-        let weighing = state.weighing;
-        return measured_reaction(state, zeroed(profile, weighing, ZI, stability(weighing)));
+    if may_wait(command) {
+        return begun(profile, state, Pending::Zero);
     }
-    begun(profile, state, Pending::Zero)
+    let weighing = state.weighing;
+    measured_reaction(state, zeroed(profile, weighing, ZI, stability(weighing)))
 }
 
 pub fn weight_shown(display: Display) -> Display
@@ -87,7 +88,7 @@ pub fn weight_shown(display: Display) -> Display
 
 // DW.
 fn show_weight(state: State) -> Reaction
-    ensures { λ r. ⌜ r ≡ meaning.showing state ⌝ }
+    ensures { λ r. ⌜ r ≡ meaning.showingWeight state ⌝ }
 {
     let display = state.display;
     answered(
@@ -96,7 +97,24 @@ fn show_weight(state: State) -> Reaction
     )
 }
 
-// T, TA alone, TAC and TI.
+// What has no own rule.
+fn unanswered(state: State) -> Reaction
+    ensures { λ r. ⌜ r ≡ meaning.unanswered state ⌝ }
+{
+    answered(state, Answer::Nothing)
+}
+
+// D, which has a verdict of its own, and DW.
+fn run_showing(state: State, command: u8) -> Reaction
+    ensures { λ r. ⌜ r ≡ meaning.showing state command ⌝ }
+{
+    if command == DW {
+        return show_weight(state);
+    }
+    unanswered(state)
+}
+
+// T, TI, TAC and TA alone.
 fn run_taring(profile: Profile, state: State, command: u8) -> Reaction
     ensures { λ r. ⌜ r ≡ meaning.taring profile state command ⌝ }
 {
@@ -111,24 +129,24 @@ fn run_taring(profile: Profile, state: State, command: u8) -> Reaction
         let cleared = with_tare(weighing, NO_TARE);
         return answered(with_weighing(state, cleared), plain(TAC, Status::A));
     }
-    let tare = weighing.tare;
-    answered(state, tare_answer(profile, tare))
+    if command == TA {
+        let tare = weighing.tare;
+        return answered(state, tare_answer(profile, tare));
+    }
+    unanswered(state)
 }
 
 pub fn run(profile: Profile, state: State, command: u8) -> Reaction
     ensures { λ r. ⌜ r ≡ meaning.run profile state command ⌝ }
 {
-    if command <= I5 {
-        return informed(state, command);
+    let kind = kind_of(command);
+    match kind {
+        Kind::Informs => informed(state, command),
+        Kind::Weighs => run_weighing(profile, state, command),
+        Kind::Zeroes => run_zeroing(profile, state, command),
+        Kind::Resets => unanswered(state),
+        Kind::Shows => run_showing(state, command),
+        Kind::Tares => run_taring(profile, state, command),
+        Kind::Unknown => unanswered(state),
     }
-    if command <= SIR {
-        return run_weighing(profile, state, command);
-    }
-    if command <= ZI {
-        return run_zeroing(profile, state, command);
-    }
-    if command <= DW {
-        return show_weight(state);
-    }
-    run_taring(profile, state, command)
 }

@@ -5,7 +5,7 @@ ghost use mathlib.Core.List.{[], _∷_, _++_};
 ghost use Prim.Native.Nat.{_+_, _≤_};
 ghost use lib.ListN.{length};
 ghost use lib.Seq.{sets};
-ghost use Rattle.answer.specs.Commands.{nameOf};
+ghost use Rattle.answer.specs.Commands.{nameOf, commandCount};
 ghost use Rattle.answer.specs.Lines.{lineEnd, quoted, statusText, headText, weightText, errorText, listedLine, listedFrom, lineOf};
 ghost use Rattle.emit.specs.Rooms.{emitted, laidIn};
 ghost use Rattle.text.specs.Ascii.{ascii};
@@ -14,10 +14,12 @@ ghost use Rattle.text.specs.Units.{unitText};
 use answer::Answer;
 use answer::Error;
 use answer::Head;
+use answer::LAST;
+use answer::LIST_LENGTH;
+use answer::LISTED_LENGTH;
 use answer::NONE;
 use answer::Number;
 use answer::Status;
-use answer::TI;
 use answer::level_of;
 use answer::name_length;
 use answer::name_of;
@@ -27,9 +29,6 @@ use text::unit_text;
 use weight::WeightUnit;
 
 const ZERO: u8 = 48;
-
-// The command whose line ends I0.
-const LAST: u8 = TI;
 
 // Whether the line had room, and its length; 0 where it had none.
 pub struct Emitted {
@@ -186,9 +185,9 @@ fn put_listed(out: &mut [u8], at: usize, last: bool, command: u8) -> usize
 }
 
 fn put_list(out: &mut [u8], at: usize) -> usize
-    requires { ⌜ at + length (listedFrom 18 0) ≤ length (now out) ⌝ }
-    ensures { λ r. ⌜ r ≡ at + length (listedFrom 18 0) ⌝ }
-    ensures { λ r. ⌜ now (out .exit) ≡ sets (now (out .entry)) at (listedFrom 18 0) ⌝ }
+    requires { ⌜ at + length (listedFrom commandCount 0) ≤ length (now out) ⌝ }
+    ensures { λ r. ⌜ r ≡ at + length (listedFrom commandCount 0) ⌝ }
+    ensures { λ r. ⌜ now (out .exit) ≡ sets (now (out .entry)) at (listedFrom commandCount 0) ⌝ }
 {
     let mut next = at;
     let mut command: u8 = 0;
@@ -220,8 +219,8 @@ fn line_length(answer: Answer, text: &[u8]) -> usize
         }
         Answer::Refused(_) => 4,
         Answer::Text(command) => name_length(command) + text.len() + 7,
-        Answer::Listed(_, command) => name_length(command) + 11,
-        Answer::CommandList => 231,
+        Answer::Listed(_, command) => name_length(command) + LISTED_LENGTH,
+        Answer::CommandList => LIST_LENGTH,
         Answer::Versions => 24,
     }
 }

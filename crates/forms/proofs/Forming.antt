@@ -10,6 +10,7 @@ use borrow.Author.Tests.{leb-true}
 use lib.Dec.{leb}
 use lib.ListN.{length}
 use lib.Signed.{nonNeg}
+use Rattle.answer.specs.Commands.{isS}
 use Rattle.answer.specs.Lines.{lineOf}
 use Rattle.answer.specs.declared.answer.Answer.{Answer}
 use Rattle.answer.specs.declared.answer.Answer.the-variants.{Nothing, Plain, Weight, Refused, Text, Listed, CommandList, Versions}
@@ -17,7 +18,7 @@ use Rattle.answer.specs.declared.answer.Head.{Head}
 use Rattle.answer.specs.declared.answer.Number.{Number}
 use Rattle.answer.proofs.Lengths.{plain-length, weight-length, refused-length, text-length, listed-length, versions-length}
 use Rattle.answer.proofs.Names.{name-short}
-use Rattle.forms.specs.Forms.{weightForm, numberForm, noText, canForm, isS, isIdentity}
+use Rattle.forms.specs.Forms.{weightForm, numberForm, noText, canForm, isIdentity}
 use Rattle.forms.proofs.Places.{identity-width}
 use Rattle.line.specs.Judging.{isPrintable}
 use Rattle.weight.specs.Field.{fitsField}

@@ -9,11 +9,10 @@ use native.Mathlib.Omega.{arith}
 use borrow.Author.Tests.{eqb-true, leb-true, ltb-true}
 use lib.Dec.{eqb, leb, ltb, lit≤, lit<}
 use lib.ListN.{length}
-use Rattle.answer.specs.Commands.{nameOf}
+use Rattle.answer.specs.Commands.{nameOf, commandCount, isD, isDW, isReset, isS, isSI, isSIR, isT, isTA, isTAC, isTI, isZ, isZI, placeD, placeDW, placeS, placeT, placeTA, placeTAC, placeTI, placeZ, placeZI}
 use Rattle.answer.specs.declared.answer.Status.{Status}
 use Rattle.answer.specs.declared.answer.Status.the-variants.{A, B, S, D, I, L, Over, Under}
-use Rattle.forms.specs.Forms.{isS, isZ, isZI, isD, isDW, isT, isTA, isTAC, isTI, isIdentification, isIdentity, plainForm, weightForm}
-use Rattle.line.specs.Judging.{isSI, isSIR, isReset}
+use Rattle.forms.specs.Forms.{isIdentification, isIdentity, plainForm, weightForm}
 use Rattle.weight.proofs.Allowed.{both-left, both-right, either-holds}
 
 -- ---- a place that is one of some
@@ -23,47 +22,47 @@ either : {P : Type 0} (a b : Bool) → (a ≡ true → P) → (b ≡ true → P)
 either a b p q e = ⊎-elim p q (either-holds a b e)
 
 -- a known place is one of the 18
-known : (c k : ℕ) → k < 18 → eqb c k ≡ true → c < 18
+known : (c k : ℕ) → k < commandCount → eqb c k ≡ true → c < commandCount
 known c k h e = let s = eqb-true c k e in omega arith
 
 -- S, Z, ZI, T, TI
-signed-place : (c : ℕ) → isS c || isZ c || isZI c || isT c || isTI c ≡ true → c < 18
+signed-place : (c : ℕ) → isS c || isZ c || isZI c || isT c || isTI c ≡ true → c < commandCount
 signed-place c =
     either (isS c || isZ c || isZI c || isT c) (isTI c)
     (either (isS c || isZ c || isZI c) (isT c)
-    (either (isS c || isZ c) (isZI c) (either (isS c) (isZ c) (known c 6 (lit< tt)) (known c 9 (lit< tt))) (known c 10 (lit< tt)))
-    (known c 14 (lit< tt)))
-    (known c 17 (lit< tt))
+    (either (isS c || isZ c) (isZI c) (either (isS c) (isZ c) (known c placeS (lit< tt)) (known c placeZ (lit< tt))) (known c placeZI (lit< tt)))
+    (known c placeT (lit< tt)))
+    (known c placeTI (lit< tt))
 
 -- Z, TAC, D, DW
-done-place : (c : ℕ) → isZ c || isTAC c || isD c || isDW c ≡ true → c < 18
+done-place : (c : ℕ) → isZ c || isTAC c || isD c || isDW c ≡ true → c < commandCount
 done-place c =
     either (isZ c || isTAC c || isD c) (isDW c)
-    (either (isZ c || isTAC c) (isD c) (either (isZ c) (isTAC c) (known c 9 (lit< tt)) (known c 16 (lit< tt))) (known c 12 (lit< tt)))
-    (known c 13 (lit< tt))
+    (either (isZ c || isTAC c) (isD c) (either (isZ c) (isTAC c) (known c placeZ (lit< tt)) (known c placeTAC (lit< tt))) (known c placeD (lit< tt)))
+    (known c placeDW (lit< tt))
 
-pub plain-place : (c : ℕ) (s : Status) → plainForm c s ≡ true → c < 18
+pub plain-place : (c : ℕ) (s : Status) → plainForm c s ≡ true → c < commandCount
 plain-place c A e = done-place c e
 plain-place c B e = let z : _≡_ {A = ℕ} 0 1 = cc in absurd (omega arith)
-plain-place c S e = known c 10 (lit< tt) e
-plain-place c D e = known c 10 (lit< tt) e
-plain-place c I e = ltb-true c 18 (both-left (ltb c 18) (not (isSI c || isSIR c)) (both-left (isIdentification c) (not (isReset c)) e))
-plain-place c L e = either (isD c) (isTA c) (known c 12 (lit< tt)) (known c 15 (lit< tt)) e
+plain-place c S e = known c placeZI (lit< tt) e
+plain-place c D e = known c placeZI (lit< tt) e
+plain-place c I e = ltb-true c commandCount (both-left (ltb c commandCount) (not (isSI c || isSIR c)) (both-left (isIdentification c) (not (isReset c)) e))
+plain-place c L e = either (isD c) (isTA c) (known c placeD (lit< tt)) (known c placeTA (lit< tt)) e
 plain-place c Over e = signed-place c e
 plain-place c Under e = signed-place c e
 
 -- no weight follows I0 to I5
-heavy : (c k : ℕ) → 6 ≤ k → k < 18 → eqb c k ≡ true → (6 ≤ c) × (c < 18)
+heavy : (c k : ℕ) → placeS ≤ k → k < commandCount → eqb c k ≡ true → (placeS ≤ c) × (c < commandCount)
 heavy c k l h e = let s = eqb-true c k e in (omega arith, omega arith)
 
-pub weight-place : (c : ℕ) (s : Status) → weightForm c s ≡ true → (6 ≤ c) × (c < 18)
-weight-place c A e = heavy c 15 (lit≤ tt) (lit< tt) e
+pub weight-place : (c : ℕ) (s : Status) → weightForm c s ≡ true → (placeS ≤ c) × (c < commandCount)
+weight-place c A e = heavy c placeTA (lit≤ tt) (lit< tt) e
 weight-place c B e = let z : _≡_ {A = ℕ} 0 1 = cc in absurd (omega arith)
 weight-place c S e =
     either (isS c || isT c) (isTI c)
-    (either (isS c) (isT c) (heavy c 6 (lit≤ tt) (lit< tt)) (heavy c 14 (lit≤ tt) (lit< tt)))
-    (heavy c 17 (lit≤ tt) (lit< tt)) e
-weight-place c D e = either (isS c) (isTI c) (heavy c 6 (lit≤ tt) (lit< tt)) (heavy c 17 (lit≤ tt) (lit< tt)) e
+    (either (isS c) (isT c) (heavy c placeS (lit≤ tt) (lit< tt)) (heavy c placeT (lit≤ tt) (lit< tt)))
+    (heavy c placeTI (lit≤ tt) (lit< tt)) e
+weight-place c D e = either (isS c) (isTI c) (heavy c placeS (lit≤ tt) (lit< tt)) (heavy c placeTI (lit≤ tt) (lit< tt)) e
 weight-place c I e = let z : _≡_ {A = ℕ} 0 1 = cc in absurd (omega arith)
 weight-place c L e = let z : _≡_ {A = ℕ} 0 1 = cc in absurd (omega arith)
 weight-place c Over e = let z : _≡_ {A = ℕ} 0 1 = cc in absurd (omega arith)

@@ -6,43 +6,14 @@ use mathlib.Core.List.{List}
 use lib.Dec.{leb, ltb, eqb}
 use lib.ListN.{length}
 use lib.Signed.{nonNeg}
-use Rattle.answer.specs.Commands.{names}
+use Rattle.answer.specs.Commands.{names, isD, isDW, isReset, isS, isSI, isSIR, isT, isTA, isTAC, isTI, isZ, isZI}
 use Rattle.answer.specs.declared.answer.Answer.{Answer}
 use Rattle.answer.specs.declared.answer.Answer.the-variants.{Nothing, Plain, Weight, Refused, Text, Listed, CommandList, Versions}
 use Rattle.answer.specs.declared.answer.Number.{Number}
 use Rattle.answer.specs.declared.answer.Status.{Status}
 use Rattle.answer.specs.declared.answer.Status.the-variants.{A, B, S, D, I, L, Over, Under}
-use Rattle.line.specs.Judging.{isPrintable, isSI, isSIR, isReset}
+use Rattle.line.specs.Judging.{isPrintable}
 use Rattle.weight.specs.Field.{fitsField}
-
--- ---- the places of the commands in I0's order
-
-abbrev pub isS : ℕ → Bool
-isS c = eqb c 6
-
-abbrev pub isZ : ℕ → Bool
-isZ c = eqb c 9
-
-abbrev pub isZI : ℕ → Bool
-isZI c = eqb c 10
-
-abbrev pub isD : ℕ → Bool
-isD c = eqb c 12
-
-abbrev pub isDW : ℕ → Bool
-isDW c = eqb c 13
-
-abbrev pub isT : ℕ → Bool
-isT c = eqb c 14
-
-abbrev pub isTA : ℕ → Bool
-isTA c = eqb c 15
-
-abbrev pub isTAC : ℕ → Bool
-isTAC c = eqb c 16
-
-abbrev pub isTI : ℕ → Bool
-isTI c = eqb c 17
 
 -- the identification of some command: for SI and SIR it is S
 abbrev pub isIdentification : ℕ → Bool

@@ -1,7 +1,8 @@
 // The answers whose line can be formed.
 ghost use mathlib.Core.Path.{_≡_};
 ghost use mathlib.Core.Bool.{_||_};
-ghost use Rattle.forms.specs.Forms.{isS, isZ, isZI, isT, isTI, plainForm, weightForm, numberForm, textForm, canForm};
+ghost use Rattle.answer.specs.Commands.{isS, isT, isTI, isZ, isZI};
+ghost use Rattle.forms.specs.Forms.{plainForm, weightForm, numberForm, textForm, canForm};
 use answer::Answer;
 use answer::D;
 use answer::DW;

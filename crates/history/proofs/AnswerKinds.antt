@@ -14,11 +14,11 @@ use Rattle.answer.specs.declared.answer.Error.the-variants.{Syntax, Transmissio
 use Rattle.answer.specs.declared.answer.Number.{Number}
 use Rattle.answer.specs.declared.answer.Status.{Status}
 use Rattle.answer.specs.declared.answer.Status.the-variants.{A, S, D, I, L, Over, Under}
-use Rattle.answer.specs.Commands.{names}
+use Rattle.answer.specs.Commands.{names, placeD, placeDW, placeS, placeT, placeTA, placeTAC, placeTI, placeZ, placeZI}
 use Rattle.answer.proofs.Names.{at-name}
 use Rattle.answer.specs.Lines.{lineEnd, statusText, headText, listedLine, listedFrom, lineOf}
 use Rattle.model.specs.declared.profile.Profile.{Profile}
-use Rattle.weighing.specs.Weighings.{headOf, placeS, placeZ, placeZI, placeD, placeDW, placeT, placeTA, placeTAC, placeTI}
+use Rattle.weighing.specs.Weighings.{headOf}
 use Rattle.device.specs.Calls.{answerBytes}
 use Rattle.text.specs.Ascii.{ascii}
 use Rattle.history.specs.Tally.{grantsZero, grantsTare, grantsClear, tellsTare, tellsNet, tellsLimit}

@@ -7,13 +7,14 @@ use mathlib.Core.Bool.{Bool, true, false, _||_}
 use mathlib.Core.List.{List}
 use lib.IntN.{pos, negℤ, natAbs}
 use lib.Signed.{ltZ}
+use Rattle.answer.specs.Commands.{placeS, placeTAC}
 use Rattle.answer.specs.declared.answer.Answer.the-variants.{Plain, Weight}
 use Rattle.answer.specs.declared.answer.Status.{Status}
-use Rattle.answer.specs.declared.answer.Status.the-variants.{A, Over, Under}
+use Rattle.answer.specs.declared.answer.Status.the-variants.{A}
 use Rattle.model.specs.declared.profile.Profile.{Profile}
 use Rattle.model.specs.declared.weighing.Weighing.{Weighing}
 use Rattle.weighing.proofs.Reach.{between}
-use Rattle.weighing.specs.Weighings.{placeS, placeTAC, headOf, stability, grossOf, netOf, numberOf, inLimits, chosenWeighing, weighed, zeroed, tared, withZero, withTare, tareAnswer}
+use Rattle.weighing.specs.Weighings.{headOf, stability, grossOf, netOf, numberOf, inLimits, chosenWeighing, weighed, zeroed, tared, withZero, withTare, tareAnswer}
 use Rattle.device.specs.Calls.{answerBytes}
 use Rattle.model.specs.Profiles.{profileAllowed}
 use Rattle.text.specs.Ascii.{ascii, sameText}

@@ -1,6 +1,6 @@
 -- The host reads every answer that a finished line or a sample gives.
 -- Assumes nothing.
-use Prim.Native.Nat.{ℕ, zero, suc, _+_, _<_, _≤_}
+use Prim.Native.Nat.{ℕ, zero, suc, _<_, _≤_}
 use native.Mathlib.Omega.{arith}
 use mathlib.Core.Path.{_≡_, refl, sym, _∙_}
 use mathlib.Core.Bool.{Bool, true, false, cond, _&&_, _||_, or-true, true≢false, false≢true}
@@ -10,6 +10,8 @@ use lib.Dec.{leb, eqb}
 use lib.IntN.{ℤ, pos, negsuc, negℤ}
 use lib.ListN.{length}
 use lib.Signed.{ltZ, nonNeg}
+use Rattle.answer.proofs.Rows.{parameters-are}
+use Rattle.answer.specs.Commands.{commandCount, isSI, isSIR, placeD, placeDW, placeReset, placeS, placeT, placeTA, placeTAC, placeTI, placeZ, placeZI, isI0, isI1}
 use Rattle.answer.specs.declared.answer.Answer.the-variants.{Plain, Weight, CommandList, Versions}
 use Rattle.answer.specs.declared.answer.Answer.the-variants as answers
 use Rattle.answer.specs.declared.answer.Status.{Status}
@@ -25,24 +27,23 @@ use Rattle.model.specs.declared.state.State.{State}
 use Rattle.weight.specs.declared.loads.Load.{Load}
 use Rattle.model.specs.declared.weighing.Weighing.{Weighing}
 use Rattle.model.specs.Profiles.{profileAllowed, textOf20, textOf40, textAllowed20, textAllowed40}
-use Rattle.commands.specs.Reactions.{weighing, zeroing, taring, run, identificationOf, performed, byteReaction}
-use Rattle.waiting.specs.Waits.{withLine, withRepeating, placeOfPending, settled, begun, waited, sampleReaction}
-use Rattle.model.specs.States.{isPending}
+use Rattle.commands.specs.Reactions.{weighing, zeroing, run, identificationOf, performed, byteReaction, situationOf}
+use Rattle.waiting.specs.Waits.{withLine, withRepeating, placeOfPending, settled, begun, sampleReaction}
 use Rattle.weighing.proofs.Reach.{not-negative}
-use Rattle.weighing.specs.Weighings.{placeS, placeZ, placeZI, placeDW, placeT, placeTA, placeTAC, placeTI, headOf, stability, grossOf, netOf, numberOf, weighed, withSample, zeroed, tared, tareAnswer}
+use Rattle.weighing.specs.Weighings.{headOf, stability, grossOf, netOf, numberOf, weighed, withSample, zeroed, tared, tareAnswer}
 use Rattle.model.proofs.ProfileFacts.{AllowedProfile, allowed-profile, text-short}
 use Rattle.history.proofs.AnswerKinds.{Tests, weighed-weighs, tared-tares, tared-now-tares, told-tells}
 use Rattle.history.proofs.DueWeights.{net-printable, gross-printable, tare-printable}
 use Rattle.history.proofs.HostReads.{ReadByHost, nothing-read, list-read, plain-read, refused-read, versions-read, text-read, weight-read}
 use Rattle.history.proofs.WaitsAnswer.{in-limits}
-use Rattle.history.proofs.WaitsAllowed.{by-choice}
-use Rattle.history.proofs.Verdicts.{verdict-proper}
+use Rattle.history.proofs.Ways.{Ruled, by-choice, run-cases, sample-cases}
+use Rattle.history.proofs.Verdicts.{verdict-proper, verdict-ruled}
 use Rattle.history.proofs.WeightLines.{weighed-shows, tared-shows, tared-now-shows, told-shows}
 use Rattle.history.specs.Tally.{isWeightAnswer, tellsNet, grantsTare}
 use Rattle.line.specs.declared.judge.Verdict.{Verdict}
 use Rattle.line.specs.declared.judge.Verdict.the-variants.{Refused, Reset, Busy, Wrong, NoSample, Run, Preset, Show}
 use Rattle.line.specs.declared.receive.Line.{Line}
-use Rattle.line.specs.Judging.{isPrintable, isSI, isSIR, judgement}
+use Rattle.line.specs.Judging.{isPrintable, judgement}
 use Rattle.line.specs.Receiving.{clearedLine, receivedByte}
 use Rattle.line.specs.Unbounded.{Marked, finishedLine, judgementOf}
 use Rattle.line.proofs.Kept.{Holds, Keeps, ends-alike, holds-finished, holds-judged}
@@ -202,49 +203,20 @@ module _ (p : Profile) (allowed : profileAllowed p ≡ true) (s : State) (range 
       (λ e. nothing-read p)
 
 module _ (p : Profile) (allowed : profileAllowed p ≡ true) (s : State) (range : s .weighing .tare .0 ≤ p .capacity) (c : ℕ) where
-  -- S, SI, SIR
-  weighing-read : ReadIn p (weighing p s c)
-  unfolding weighing
-  weighing-read =
-      by-choice (ReadIn p) (isSI c || isSIR c)
-      (λ e. weighed-read p allowed (s .weighing) range)
-      (λ e. begun-read p allowed (withRepeating s false) range Weigh)
-
-  -- Z, ZI
-  zeroing-read : ReadIn p (zeroing p s c)
-  unfolding zeroing
-  zeroing-read =
-      by-choice (ReadIn p) (eqb c placeZI)
-      (λ e. zeroed-read p allowed (s .weighing) range placeZI (stability (s .weighing)) refl refl (stability-form (s .weighing .stable)))
-      (λ e. begun-read p allowed s range Zero)
-
-  -- T, TA alone, TAC, TI
-  taring-read : ReadIn p (taring p s c)
-  unfolding taring
-  taring-read =
-      by-choice (ReadIn p) (eqb c placeT)
-      (λ e. begun-read p allowed s range Tare)
-      (λ e.
-      by-choice (ReadIn p) (eqb c placeTI)
-      (λ f. tared-read p allowed (s .weighing) range placeTI refl refl (tare-form p allowed (s .weighing .stable) (grossOf (s .weighing))))
-      (λ f.
-      by-choice (ReadIn p) (eqb c placeTAC)
-      (λ g. plain-read p placeTAC A refl)
-      (λ g. told-read p allowed (s .weighing .tare .0) range)))
-
   -- a command that is run
-  run-read : ReadIn p (run p s c)
-  unfolding run
-  run-read =
-      by-choice (ReadIn p) (leb c 5)
-      (λ e. informed-by p allowed c (eqb c 0) (eqb c 1) refl refl e)
-      (λ e.
-      by-choice (ReadIn p) (leb c 8)
-      (λ f. weighing-read)
-      (λ f.
-      by-choice (ReadIn p) (leb c 10)
-      (λ g. zeroing-read)
-      (λ g. by-choice (ReadIn p) (leb c placeDW) (λ i. plain-read p placeDW A refl) (λ i. taring-read))))
+  run-read : Ruled c → ReadIn p (run p s c)
+  run-read ruled =
+      run-cases (ReadIn p) p s c ruled
+      (λ few. informed-by p allowed c (isI0 c) (isI1 c) refl refl few)
+      (λ is. begun-read p allowed (withRepeating s false) range Weigh)
+      (λ needs. weighed-read p allowed (s .weighing) range)
+      (λ is. begun-read p allowed s range Zero)
+      (λ needs. zeroed-read p allowed (s .weighing) range placeZI (stability (s .weighing)) refl refl (stability-form (s .weighing .stable)))
+      (plain-read p placeDW A refl)
+      (λ is. begun-read p allowed s range Tare)
+      (λ needs. tared-read p allowed (s .weighing) range placeTI refl refl (tare-form p allowed (s .weighing .stable) (grossOf (s .weighing))))
+      (plain-read p placeTAC A refl)
+      (λ is. told-read p allowed (s .weighing .tare .0) range)
 
 -- ---- a finished line
 
@@ -255,37 +227,37 @@ Named p Reset = Unit
 Named p (Busy c) = plainForm (identificationOf c) I ≡ true
 Named p (Wrong c) = plainForm c L ≡ true
 Named p (NoSample c) = plainForm (identificationOf c) I ≡ true
-Named p (Run c) = Unit
+Named p (Run c) = Ruled c
 Named p (Preset m) = m .0 ≤ p .capacity
 Named p (Show n) = Unit
 
 -- every name but @ has an answer with I, by its identification
-identified-by : (now : Bool) (c : ℕ) → (isSI c || isSIR c) ≡ now → c < 18 → (c ≡ 11 → ⊥) → plainForm (cond now placeS c) I ≡ true
+identified-by : (now : Bool) (c : ℕ) → (isSI c || isSIR c) ≡ now → c < commandCount → (c ≡ placeReset → ⊥) → plainForm (cond now placeS c) I ≡ true
 identified-by true c e known other = refl
-identified-by false c e known other = rw (lt-ltb c 18 known, e, ne-eqb c 11 other)
+identified-by false c e known other = rw (lt-ltb c commandCount known, e, ne-eqb c placeReset other)
 
 -- the same by the tests of the name
-identified : (c : ℕ) → c < 18 → (c ≡ 11 → ⊥) → plainForm (identificationOf c) I ≡ true
+identified : (c : ℕ) → c < commandCount → (c ≡ placeReset → ⊥) → plainForm (identificationOf c) I ≡ true
 identified c known other = identified-by (isSI c || isSIR c) c refl known other
 
 -- the verdict on a line names a command that the reader knows
 verdict-named
-    : (p : Profile) (f : List Marked) (waiting sampled : Bool) (l : Line) → Holds l f → (v : Verdict)
-    → judgementOf (p .capacity) (p .resolution .unit) f waiting sampled ≡ v
+    : (p : Profile) (s : State) (f : List Marked) (l : Line) → Holds l f → (v : Verdict)
+    → judgementOf (situationOf p s) f ≡ v
     → Named p v
-verdict-named p f waiting sampled l held (Refused e) h = tt
-verdict-named p f waiting sampled l held Reset h = tt
-verdict-named p f waiting sampled l held (Busy c) h =
-    let k = busy-line (p .capacity) (p .resolution .unit) f waiting sampled h .0 in
+verdict-named p s f l held (Refused e) h = tt
+verdict-named p s f l held Reset h = tt
+verdict-named p s f l held (Busy c) h =
+    let k = busy-line (situationOf p s) f h .0 in
     identified c (k .a-name) (k .no-reset)
-verdict-named p f waiting sampled l held (Wrong c) h = wrong-line (p .capacity) (p .resolution .unit) f waiting sampled h .1
-verdict-named p f waiting sampled l held (NoSample c) h =
-    let k = no-sample-line (p .capacity) (p .resolution .unit) f waiting sampled h .0 in
+verdict-named p s f l held (Wrong c) h = parameters-are c ∙ wrong-line (situationOf p s) f h .1
+verdict-named p s f l held (NoSample c) h =
+    let k = no-sample-line (situationOf p s) f h .0 in
     identified c (k .a-name) (k .no-reset)
-verdict-named p f waiting sampled l held (Run c) h = tt
-verdict-named p f waiting sampled l held (Preset m) h =
-    verdict-proper (p .capacity) (p .resolution .unit) f waiting sampled l held (Preset m) h
-verdict-named p f waiting sampled l held (Show n) h = tt
+verdict-named p s f l held (Run c) h = verdict-ruled (situationOf p s) f (Run c) h
+verdict-named p s f l held (Preset m) h =
+    verdict-proper (situationOf p s) f l held (Preset m) h
+verdict-named p s f l held (Show n) h = tt
 
 module _ (p : Profile) (allowed : profileAllowed p ≡ true) (s : State) (range : s .weighing .tare .0 ≤ p .capacity) where
   -- what each verdict answers
@@ -295,9 +267,9 @@ module _ (p : Profile) (allowed : profileAllowed p ≡ true) (s : State) (range 
   performed-read l (Busy c) named = plain-read p (identificationOf c) I named
   performed-read l (Wrong c) named = plain-read p c L named
   performed-read l (NoSample c) named = plain-read p (identificationOf c) I named
-  performed-read l (Run c) named = run-read p allowed s range c
+  performed-read l (Run c) named = run-read p allowed s range c named
   performed-read l (Preset m) named = told-read p allowed (m .0) named
-  performed-read l (Show n) named = plain-read p 12 A refl
+  performed-read l (Show n) named = plain-read p placeD A refl
 
 -- ---- a byte
 
@@ -307,13 +279,13 @@ module _ (p : Profile) (allowed : profileAllowed p ≡ true) (s : State) (range 
   unfolding byteReaction
   byte-read b bad =
       let l : Line = receivedByte (s .line) b bad .line in
-      let v : Verdict = judgement (p .capacity) (p .resolution .unit) l (isPending (s .waiting .pending)) (s .weighing .sampled) in
+      let v : Verdict = judgement (situationOf p s) l in
       by-choice (ReadIn p) (receivedByte (s .line) b bad .ended)
       (λ e.
       let held : Holds l (finishedLine u) = holds-finished (s .line) u keeps b bad (sym (ends-alike (s .line) u keeps b bad) ∙ e) in
       performed-read p allowed (withLine s (clearedLine l)) range l v
-      (verdict-named p (finishedLine u) (isPending (s .waiting .pending)) (s .weighing .sampled) l held v
-      (sym (holds-judged (p .capacity) (p .resolution .unit) (isPending (s .waiting .pending)) (s .weighing .sampled) l (finishedLine u) held))))
+      (verdict-named p s (finishedLine u) l held v
+      (sym (holds-judged (situationOf p s) l (finishedLine u) held))))
       (λ e. nothing-read p)
 
 -- ---- a sample
@@ -326,21 +298,12 @@ pending-form Zero = refl
 pending-form Tare = refl
 
 module _ (p : Profile) (allowed : profileAllowed p ≡ true) (s : State) (range : s .weighing .tare .0 ≤ p .capacity) (z : Load) where
-  -- the SI answer while a repetition runs
-  repeated-read : (repeating stable : Bool) → ReadByHost p (cond repeating (weighed p (withSample (s .weighing) z stable)) answers.Nothing)
-  repeated-read true stable = weighed-read p allowed (withSample (s .weighing) z stable) range
-  repeated-read false stable = nothing-read p
-
   -- the answer to a sample
   pub sample-read : (stable : Bool) → ReadIn p (sampleReaction p s z stable)
-  unfolding sampleReaction waited
   sample-read stable =
-      by-choice (ReadIn p) (isPending (s .waiting .pending))
-      (λ waits.
-      by-choice (ReadIn p) stable
-      (λ e. settled-read p allowed (withSample (s .weighing) z stable) range (s .waiting .pending) e)
-      (λ e.
-      by-choice (ReadIn p) (leb (p .timeout) (s .waiting .unstable + 1))
-      (λ most. plain-read p (placeOfPending (s .waiting .pending)) I (pending-form (s .waiting .pending)))
-      (λ less. nothing-read p)))
-      (λ none. repeated-read (s .repeating) stable)
+      sample-cases (ReadIn p) p s z stable
+      (λ waits e. settled-read p allowed (withSample (s .weighing) z stable) range (s .waiting .pending) e)
+      (λ waits e most. plain-read p (placeOfPending (s .waiting .pending)) I (pending-form (s .waiting .pending)))
+      (λ waits e less. nothing-read p)
+      (λ none. weighed-read p allowed (withSample (s .weighing) z stable) range)
+      (λ none. nothing-read p)

@@ -9,12 +9,13 @@ use borrow.Author.Tests.{lt-ltb, le-leb, leb-true}
 use lib.Dec.{leb, eqb}
 use lib.IntN.{ℤ, natAbs, _-ℤ_}
 use lib.Signed.{nonNeg}
+use Rattle.answer.specs.Commands.{commandCount, isS}
 use Rattle.answer.specs.Lines.{listedLine, listedFrom, lineOf}
 use Rattle.answer.specs.declared.answer.Answer.{Answer}
 use Rattle.answer.specs.declared.answer.Answer.the-variants.{Nothing, Plain, Weight, Refused, Text, Listed, CommandList, Versions}
 use Rattle.answer.specs.declared.answer.Error.{Error}
 use Rattle.answer.specs.declared.answer.Status.{Status}
-use Rattle.forms.specs.Forms.{plainForm, weightForm, isS, canForm}
+use Rattle.forms.specs.Forms.{plainForm, weightForm, canForm}
 use Rattle.model.specs.declared.profile.Profile.{Profile}
 use Rattle.device.specs.Calls.{answerText, answerBytes}
 use Rattle.weighing.specs.Weighings.{headOf, numberOf}
@@ -75,18 +76,18 @@ unfolding lineOf
 line-held p t last c rest form = read-back p t (Listed last c) [] rest form
 
 -- and so are the n lines from c on
-listed-held : (p : Profile) (t : Tally) (n c : ℕ) → n + c ≤ 18 → piecesHold p t (piecesOf (listedFrom n c)) ≡ true
+listed-held : (p : Profile) (t : Tally) (n c : ℕ) → n + c ≤ commandCount → piecesHold p t (piecesOf (listedFrom n c)) ≡ true
 unfolding listedFrom
 listed-held p t zero c known = no-pieces p t
 listed-held p t (suc n) c known =
-    let form : canForm (Listed (eqb n 0) c) [] ≡ true = rw (lt-ltb c 18 (omega arith)) in
+    let form : canForm (Listed (eqb n 0) c) [] ≡ true = rw (lt-ltb c commandCount (omega arith)) in
     rw (listed-first (eqb n 0) c (listedFrom n (suc c)), line-held p t (eqb n 0) c (piecesOf (listedFrom n (suc c))) form)
     (listed-held p t n (suc c) (omega arith))
 
 -- all of them
 pub list-read : (p : Profile) → ReadByHost p CommandList
 unfolding answerBytes lineOf
-list-read p t holds = listed-held p t 18 0 (omega arith)
+list-read p t holds = listed-held p t commandCount 0 (omega arith)
 
 -- ---- answers of one line that are no weights
 

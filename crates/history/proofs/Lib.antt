@@ -20,4 +20,5 @@ mod WaitsDelivered
 pub mod WaitsEnd
 mod WaitsPerformed
 mod WaitsStep
+mod Ways
 mod WeightLines

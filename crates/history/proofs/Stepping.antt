@@ -1,10 +1,9 @@
 -- One call: refused for room, it changes nothing in the tally; delivered, the tally accepts it and follows the state that it returns.
 -- Assumes nothing.
-use Prim.Native.Nat.{ℕ, _+_}
-use mathlib.Core.Path.{_≡_, refl}
+use Prim.Native.Nat.{ℕ}
+use mathlib.Core.Path.{_≡_, refl, sym}
 use mathlib.Core.Bool.{Bool, true, false}
 use mathlib.Core.List.{List}
-use lib.Dec.{leb}
 use lib.IntN.{pos}
 use lib.ListN.{take}
 use Rattle.answer.specs.declared.answer.Answer.the-variants.{Nothing}
@@ -16,9 +15,9 @@ use Rattle.weight.specs.declared.loads.Load.{Load}
 use Rattle.model.specs.Refusals.{numberOfRefusal}
 use Rattle.device.specs.Calls.{answerBytes, ByteCalled, SampleCalled}
 use Rattle.model.specs.Profiles.{profileAllowed}
-use Rattle.commands.specs.Reactions.{performed, byteReaction}
-use Rattle.waiting.specs.Waits.{withLine, chosenReaction, reaction, waited, sampleReaction}
-use Rattle.model.specs.States.{isPending, stateAllowed, startState}
+use Rattle.commands.specs.Reactions.{performed, byteReaction, situationOf}
+use Rattle.waiting.specs.Waits.{withLine, chosenReaction, reaction, sampleReaction}
+use Rattle.model.specs.States.{stateAllowed, startState}
 use Rattle.line.specs.declared.receive.Line.{Line}
 use Rattle.line.specs.Receiving.{clearedLine, receivedByte}
 use Rattle.line.specs.Judging.{judgement}
@@ -33,10 +32,11 @@ use Rattle.history.proofs.DueWeights.{tare-range}
 use Rattle.history.proofs.Following.{Follows}
 use Rattle.history.proofs.Reacting.{Reacted, performed-reacted, byte-answered, sample-reacted}
 use Rattle.history.proofs.Tallying.{tallied-line}
-use Rattle.history.proofs.Verdicts.{verdict-says}
-use Rattle.history.proofs.WaitsAllowed.{by-choice, byte-allowed, sample-allowed}
+use Rattle.history.proofs.Verdicts.{verdict-says, verdict-ruled}
+use Rattle.history.proofs.WaitsAllowed.{byte-allowed, sample-allowed}
 use Rattle.history.proofs.WaitsDelivered.{Delivered, given, withheld, byte-delivered, sample-delivered}
 use Rattle.history.proofs.WaitsPerformed.{same-line, performed-kind}
+use Rattle.history.proofs.Ways.{sample-cases}
 
 -- the tally follows an allowed state: its line and its weighing
 pub record FollowsState (p : Profile) (s : State) (t : Tally) : Type 0 where
@@ -92,17 +92,19 @@ module _ (p : Profile) (profile : profileAllowed p ≡ true) (s : State) (t : Ta
       : (ended : Bool)
       → endsUnbounded (t .line) (markedAs b bad) ≡ ended
       → let r = chosenReaction ended
-      (performed p (withLine s (clearedLine received)) received (judgement (p .capacity) (p .resolution .unit) received (isPending (s .waiting .pending)) (s .weighing .sampled)))
+      (performed p (withLine s (clearedLine received)) received (judgement (situationOf p s) received))
       (reaction (withLine s received) Nothing) in
       Reacted p t (byteIs (markedAs b bad)) r × Keeps (r .state .line) (afterMarked (t .line) (markedAs b bad))
   byte-by true end =
-      let v = judgement (p .capacity) (p .resolution .unit) received (isPending (s .waiting .pending)) (s .weighing .sampled) in (
+      let v = judgement (situationOf p s) received in (
         performed-reacted p profile t (markedAs b bad) (withLine s (clearedLine received)) (kept .weighing) (tare-range p s (kept .allowed)) end received v
             (rw
-            (holds-judged (p .capacity) (p .resolution .unit) (isPending (s .waiting .pending)) (s .weighing .sampled) received (finishedLine (t .line))
+            (holds-judged (situationOf p s) received (finishedLine (t .line))
             (holds-finished (s .line) (t .line) (kept .line) b bad end))
-            (verdict-says (p .capacity) (p .resolution .unit) (finishedLine (t .line)) (isPending (s .waiting .pending)) (s .weighing .sampled) _ refl)),
-        rw (same-line (performed-kind p (withLine s (clearedLine received)) received v)) (keeps-next (s .line) (t .line) (kept .line) b bad end),
+            (verdict-says (situationOf p s) (finishedLine (t .line)) _ refl)),
+        rw (same-line (performed-kind p (withLine s (clearedLine received)) received v (verdict-ruled (situationOf p s) (finishedLine (t .line)) v
+            (sym (holds-judged (situationOf p s) received (finishedLine (t .line)) (holds-finished (s .line) (t .line) (kept .line) b bad end))))))
+            (keeps-next (s .line) (t .line) (kept .line) b bad end),
       )
   byte-by false going = (
     byte-answered p t (markedAs b bad) (s .weighing) (kept .weighing) going,
@@ -127,12 +129,8 @@ module _ (p : Profile) (profile : profileAllowed p ≡ true) (s : State) (t : Ta
 
 -- which leaves the line alone
 sample-line : (p : Profile) (s : State) (z : Load) (stable : Bool) → sampleReaction p s z stable .state .line ≡ s .line
-unfolding sampleReaction waited
 sample-line p s z stable =
-    let Goal : Reaction → Type 0 = λ x. x .state .line ≡ s .line in
-    by-choice Goal (isPending (s .waiting .pending))
-    (λ e. by-choice Goal stable (λ f. refl) (λ f. by-choice Goal (leb (p .timeout) (s .waiting .unstable + 1)) (λ g. refl) (λ g. refl)))
-    (λ e. refl)
+    sample-cases (λ x. x .state .line ≡ s .line) p s z stable (λ w e. refl) (λ w e m. refl) (λ w e l. refl) (λ n. refl) (λ n. refl)
 
 module _ (p : Profile) (profile : profileAllowed p ≡ true) (s : State) (t : Tally) (kept : FollowsState p s t) (z : Load) (stable : Bool) where
   -- the sample call

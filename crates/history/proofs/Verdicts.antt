@@ -1,25 +1,25 @@
 -- What the judgement of a finished line says of that line, in the tally's words, and what it promises of its parameter.
 -- Assumes nothing.
-use Prim.Native.Nat.{ℕ, _<_, _≤_}
+use Prim.Native.Nat.{ℕ, _≤_}
 use mathlib.Core.Path.{_≡_, refl, sym, ap, _∙_}
 use mathlib.Core.Bool.{Bool, true, false, not, _&&_, true≢false, false≢true}
 use mathlib.Core.List.{List, map}
-use borrow.Author.Tests.{eqb-true, not-true}
-use Rattle.answer.specs.Commands.{nameOf}
+use borrow.Author.Tests.{not-true}
+use Rattle.answer.specs.Commands.{nameOf, needsSample}
+use Rattle.line.specs.declared.judge.Situation.{Situation}
 use Rattle.line.specs.declared.judge.Verdict.{Verdict}
 use Rattle.line.specs.declared.judge.Verdict.the-variants.{Refused, Reset, Busy, Wrong, NoSample, Run, Preset, Show}
 use Rattle.line.specs.declared.receive.Line.{Line}
-use Rattle.line.specs.Judging.{isSIR, needsSample}
 use Rattle.line.specs.Unbounded.{Marked, byteIn, anyFaulty, judgementOf}
 use Rattle.line.proofs.Kept.{Holds}
 use Rattle.line.proofs.Verdicts.{GoodLine, Shown, reset-line, reset-judged, run-line, preset-line, show-line, show-cells}
-use Rattle.weight.specs.declared.units.WeightUnit.{WeightUnit}
 use Rattle.weight.specs.declared.typed.Tare.{Tare}
 use Rattle.text.specs.Ascii.{ascii, sameText}
 use Rattle.weight.proofs.Allowed.{both-left, both-right}
 use Rattle.text.proofs.Named.{same-is}
 use Rattle.history.specs.Tally.{isResetLine, typedText}
 use Rattle.history.proofs.TypedLines.{TypedAs, typed-as}
+use Rattle.history.proofs.Ways.{Ruled}
 
 -- ---- @
 
@@ -56,42 +56,46 @@ reset-good f e =
       good = not-true (anyFaulty f) (both-left (not (anyFaulty f)) (sameText (map byteIn f) (ascii "@")) e);
     }
 
-module _ (capacity : ℕ) (unit : WeightUnit) (f : List Marked) (waiting sampled : Bool) where
-  reset-then : resets (judgementOf capacity unit f waiting sampled) ≡ true → isResetLine f ≡ true
+module _ (j : Situation) (f : List Marked) where
+  reset-then : resets (judgementOf j f) ≡ true → isResetLine f ≡ true
   reset-then e =
-      let g : GoodLine f (ascii "@") = reset-line capacity unit f waiting sampled (resets-is (judgementOf capacity unit f waiting sampled) e) in
+      let g : GoodLine f (ascii "@") = reset-line j f (resets-is (judgementOf j f) e) in
       rw (g .good, g .bytes)
 
   -- the line @, and no other, resets
-  pub reset-test : resets (judgementOf capacity unit f waiting sampled) ≡ isResetLine f
+  pub reset-test : resets (judgementOf j f) ≡ isResetLine f
   reset-test =
-      same-tests (resets (judgementOf capacity unit f waiting sampled)) (isResetLine f) reset-then
-      (λ e. ap resets (reset-judged capacity unit f waiting sampled (reset-good f e)))
+      same-tests (resets (judgementOf j f)) (isResetLine f) reset-then
+      (λ e. ap resets (reset-judged j f (reset-good f e)))
 
 -- ---- what each verdict says of the line
 
+-- a command that may be run: it has a rule of its own, and the sample that it needs is there
+pub record RunMay (j : Situation) (c : ℕ) : Type 0 where
+  pub ruled : Ruled c
+  pub sample : needsSample c ≡ true → j .sampled ≡ true
+
 -- the line of a command run: its name alone
-pub record RunSays (f : List Marked) (sampled : Bool) (c : ℕ) : Type 0 where
+pub record RunSays (j : Situation) (f : List Marked) (c : ℕ) : Type 0 where
   pub other : isResetLine f ≡ false
   pub text : map byteIn f ≡ nameOf c
-  pub known : c < 18
-  pub sample : needsSample c ≡ true → sampled ≡ true
+  pub may : RunMay j c
 
 -- the line TA number unit
-pub record PresetSays (capacity : ℕ) (unit : WeightUnit) (f : List Marked) (m : Tare) : Type 0 where
+pub record PresetSays (j : Situation) (f : List Marked) (m : Tare) : Type 0 where
   pub other : isResetLine f ≡ false
   pub more : sameText (map byteIn f) (ascii "TA") ≡ false
-  pub typed : TypedAs capacity unit (typedText (map byteIn f)) (m .0)
+  pub typed : TypedAs (j .capacity) (j .resolution .unit) (typedText (map byteIn f)) (m .0)
 
-abbrev pub Says : ℕ → WeightUnit → List Marked → Bool → Verdict → Type 0
-Says capacity unit f sampled (Refused e) = isResetLine f ≡ false
-Says capacity unit f sampled Reset = isResetLine f ≡ true
-Says capacity unit f sampled (Busy c) = isResetLine f ≡ false
-Says capacity unit f sampled (Wrong c) = isResetLine f ≡ false
-Says capacity unit f sampled (NoSample c) = isResetLine f ≡ false
-Says capacity unit f sampled (Run c) = RunSays f sampled c
-Says capacity unit f sampled (Preset m) = PresetSays capacity unit f m
-Says capacity unit f sampled (Show n) = isResetLine f ≡ false
+abbrev pub Says : Situation → List Marked → Verdict → Type 0
+Says j f (Refused e) = isResetLine f ≡ false
+Says j f Reset = isResetLine f ≡ true
+Says j f (Busy c) = isResetLine f ≡ false
+Says j f (Wrong c) = isResetLine f ≡ false
+Says j f (NoSample c) = isResetLine f ≡ false
+Says j f (Run c) = RunSays j f c
+Says j f (Preset m) = PresetSays j f m
+Says j f (Show n) = isResetLine f ≡ false
 
 -- a sample that is not missing
 there-by : (n s : Bool) → (n && not s) ≡ false → n ≡ true → s ≡ true
@@ -99,52 +103,76 @@ there-by true true e g = refl
 there-by true false e g = absurd (true≢false e)
 there-by false s e g = absurd (false≢true g)
 
-module _ (capacity : ℕ) (unit : WeightUnit) (f : List Marked) (waiting sampled : Bool) where
-  by-verdict : {v : Verdict} → judgementOf capacity unit f waiting sampled ≡ v → isResetLine f ≡ resets v
-  by-verdict h = sym (reset-test capacity unit f waiting sampled) ∙ ap resets h
+module _ (j : Situation) (f : List Marked) where
+  by-verdict : {v : Verdict} → judgementOf j f ≡ v → isResetLine f ≡ resets v
+  by-verdict h = sym (reset-test j f) ∙ ap resets h
 
-  pub verdict-says : (v : Verdict) → judgementOf capacity unit f waiting sampled ≡ v → Says capacity unit f sampled v
+  pub verdict-says : (v : Verdict) → judgementOf j f ≡ v → Says j f v
   verdict-says (Refused e) h = by-verdict h
   verdict-says Reset h = by-verdict h
   verdict-says (Busy c) h = by-verdict h
   verdict-says (Wrong c) h = by-verdict h
   verdict-says (NoSample c) h = by-verdict h
   verdict-says (Run c) h =
-      let line = run-line capacity unit f waiting sampled h in
+      let line = run-line j f h in
       record {
         other = by-verdict h;
         text = line .line .bytes;
-        known = line .a-name;
-        sample = there-by (needsSample c) sampled (line .has-sample);
+        may =
+            record {
+              ruled = record { known = line .a-name; no-reset = line .no-reset; no-show = line .no-show };
+              sample = there-by (needsSample c) (j .sampled) (line .has-sample);
+            };
       }
   verdict-says (Preset m) h =
-      let line = preset-line capacity unit f waiting sampled h in
+      let line = preset-line j f h in
       record {
         other = by-verdict h;
         more = rw (line .line .bytes);
-        typed = typed-as capacity unit (typedText (map byteIn f)) m (line .number) (line .within);
+        typed = typed-as (j .capacity) (j .resolution .unit) (typedText (map byteIn f)) m (line .number) (line .within);
       }
   verdict-says (Show n) h = by-verdict h
 
--- ---- what a verdict on l promises: SIR runs only after a sample, a preset lies in 0..C, and a shown text is one that D takes
+-- ---- what a verdict on l promises: a command runs that may, a preset lies in 0..C, and a shown text is one that D takes
 
-abbrev pub Proper : ℕ → Bool → Line → Verdict → Type 0
-Proper capacity sampled l (Refused e) = Unit
-Proper capacity sampled l Reset = Unit
-Proper capacity sampled l (Busy c) = Unit
-Proper capacity sampled l (Wrong c) = Unit
-Proper capacity sampled l (NoSample c) = Unit
-Proper capacity sampled l (Run c) = isSIR c ≡ true → sampled ≡ true
-Proper capacity sampled l (Preset m) = m .0 ≤ capacity
-Proper capacity sampled l (Show n) = Shown l n
+abbrev pub Proper : Situation → Line → Verdict → Type 0
+Proper j l (Refused e) = Unit
+Proper j l Reset = Unit
+Proper j l (Busy c) = Unit
+Proper j l (Wrong c) = Unit
+Proper j l (NoSample c) = Unit
+Proper j l (Run c) = RunMay j c
+Proper j l (Preset m) = m .0 ≤ j .capacity
+Proper j l (Show n) = Shown l n
 
-module _ (capacity : ℕ) (unit : WeightUnit) (f : List Marked) (waiting sampled : Bool) (l : Line) (held : Holds l f) where
-  pub verdict-proper : (v : Verdict) → judgementOf capacity unit f waiting sampled ≡ v → Proper capacity sampled l v
+module _ (j : Situation) (f : List Marked) (l : Line) (held : Holds l f) where
+  pub verdict-proper : (v : Verdict) → judgementOf j f ≡ v → Proper j l v
   verdict-proper (Refused e) h = tt
   verdict-proper Reset h = tt
   verdict-proper (Busy c) h = tt
   verdict-proper (Wrong c) h = tt
   verdict-proper (NoSample c) h = tt
-  verdict-proper (Run c) h = λ sir. verdict-says capacity unit f waiting sampled (Run c) h .sample (rw (eqb-true c 8 sir))
-  verdict-proper (Preset m) h = verdict-says capacity unit f waiting sampled (Preset m) h .typed .range
-  verdict-proper (Show n) h = show-cells l f waiting n held (show-line capacity unit f waiting sampled h)
+  verdict-proper (Run c) h = verdict-says j f (Run c) h .may
+  verdict-proper (Preset m) h = verdict-says j f (Preset m) h .typed .range
+  verdict-proper (Show n) h = show-cells j l f n held (show-line j f h)
+
+-- a command that is run has a rule
+abbrev pub RuledBy : Verdict → Type 0
+RuledBy (Refused e) = Unit
+RuledBy Reset = Unit
+RuledBy (Busy c) = Unit
+RuledBy (Wrong c) = Unit
+RuledBy (NoSample c) = Unit
+RuledBy (Run c) = Ruled c
+RuledBy (Preset m) = Unit
+RuledBy (Show n) = Unit
+
+pub verdict-ruled : (j : Situation) (f : List Marked) (v : Verdict) → judgementOf j f ≡ v → RuledBy v
+verdict-ruled j f (Refused e) h = tt
+verdict-ruled j f Reset h = tt
+verdict-ruled j f (Busy c) h = tt
+verdict-ruled j f (Wrong c) h = tt
+verdict-ruled j f (NoSample c) h = tt
+verdict-ruled j f (Run c) h = verdict-says j f (Run c) h .may .ruled
+verdict-ruled j f (Preset m) h = tt
+verdict-ruled j f (Show n) h = tt

@@ -5,16 +5,17 @@ use mathlib.Core.Bool.{Bool, true, false, not, _&&_, _||_, or-true}
 use mathlib.Core.List.{List}
 use Prim.Native.Nat.{ℕ, _+_, _≤_, zero-le}
 use native.Mathlib.Omega.{arith}
-use borrow.Author.Tests.{leb-false, le-leb, lt-ltb}
-use lib.Dec.{leb, ltb, eqb}
+use borrow.Author.Tests.{le-leb, lt-ltb}
+use lib.Dec.{leb, ltb}
 use lib.IntN.{pos, negℤ, natAbs}
 use lib.ListN.{take, drop}
 use lib.Seq.{take-at}
 use lib.Signed.{leZ, ltZ}
+use Rattle.answer.specs.Commands.{isSIR, placeT, placeTI, placeZ, placeZI}
 use Rattle.answer.specs.declared.answer.Status.{Status}
+use Rattle.answer.specs.declared.answer.Answer.the-variants as answers
 use Rattle.answer.specs.declared.answer.Status.the-variants.{A}
 use Rattle.model.specs.declared.profile.Profile.{Profile}
-use Rattle.waiting.specs.declared.react.Reaction.{Reaction}
 use Rattle.model.specs.declared.state.Display.{Display}
 use Rattle.model.specs.declared.state.Pending.{Pending}
 use Rattle.model.specs.declared.state.Pending.the-variants.{Nothing, Weigh, Zero, Tare}
@@ -24,29 +25,25 @@ use Rattle.weight.specs.declared.loads.Load.{Load}
 use Rattle.weighing.specs.declared.weighing.Measured.{Measured}
 use Rattle.model.specs.declared.weighing.Weighing.{Weighing}
 use Rattle.model.specs.Profiles.{textAllowed20, profileAllowed}
-use Rattle.commands.specs.Reactions.{weighing, zeroing, taring, run, weightShown, resetState, textShown, performed, byteReaction}
-use Rattle.waiting.specs.Waits.{chosenReaction, withLine, withWeighing, withWaiting, withRepeating, withDisplay, notWaiting, settled, begun, waited, sampleReaction}
+use Rattle.commands.specs.Reactions.{weighing, zeroing, run, weightShown, resetState, textShown, performed, byteReaction, situationOf}
+use Rattle.waiting.specs.Waits.{sampledState, withLine, withWeighing, withWaiting, withRepeating, withDisplay, notWaiting, settled, begun, sampleReaction}
 use Rattle.model.specs.States.{isPending, stateAllowed}
 use Rattle.weighing.proofs.Reach.{between}
-use Rattle.weighing.specs.Weighings.{placeZ, placeZI, placeDW, placeT, placeTI, placeTAC, stability, grossOf, withTare, withZero, withSample, chosenWeighing, zeroed, tared}
+use Rattle.weighing.specs.Weighings.{stability, grossOf, withTare, withZero, chosenWeighing, zeroed, tared}
 use Rattle.model.proofs.ProfileFacts.{allowed-profile}
 use Rattle.model.proofs.StateFacts.{StateTests, allowed-tests, tests-allow}
 use Rattle.line.specs.declared.judge.Verdict.{Verdict}
 use Rattle.line.specs.declared.judge.Verdict.the-variants.{Refused, Reset, Busy, Wrong, NoSample, Run, Preset, Show}
 use Rattle.line.specs.declared.receive.Line.{Line}
-use Rattle.line.specs.Judging.{isSI, isSIR, judgement}
+use Rattle.line.specs.Judging.{judgement}
 use Rattle.line.specs.Receiving.{clearedLine, receivedByte}
 use Rattle.line.specs.Unbounded.{Marked, endsUnbounded, finishedLine}
 use Rattle.line.proofs.Kept.{Holds, Keeps, markedAs, ends-alike, holds-finished, holds-judged, keeps-byte}
 use Rattle.line.proofs.Verdicts.{Shown}
 use Rattle.weight.proofs.Allowed.{both-hold}
 use Rattle.history.proofs.DueWeights.{not-below}
-use Rattle.history.proofs.Verdicts.{Proper, verdict-proper}
-
--- a choice by its test
-pub by-choice : (P : Reaction → Type 0) (b : Bool) {x y : Reaction} → (b ≡ true → P x) → (b ≡ false → P y) → P (chosenReaction b x y)
-by-choice P true f g = f refl
-by-choice P false f g = g refl
+use Rattle.history.proofs.Verdicts.{RunMay, Proper, verdict-proper}
+use Rattle.history.proofs.Ways.{by-choice, run-cases, sample-cases}
 
 -- ---- zero and tare
 
@@ -155,54 +152,25 @@ module _ (p : Profile) (least : 1 ≤ p .timeout) (s : State) (h : StateTests p 
       (λ e. with-waiting p s h (record { pending = pending; unstable = 0 }) (waits-anew pending))
 
 module _ (p : Profile) (least : 1 ≤ p .timeout) (s : State) (h : StateTests p s) where
-  weighing-allowed : (c : ℕ) → (isSIR c ≡ true → s .weighing .sampled ≡ true) → StateTests p (weighing p s c .state)
-  unfolding weighing
-  weighing-allowed c sampled =
-      by-choice (λ x. StateTests p (x .state)) (isSI c || isSIR c)
-      (λ e. with-repeating p s h (isSIR c) (then (isSIR c) (s .weighing .sampled) sampled))
-      (λ e. begun-allowed p least (withRepeating s false) (with-repeating p s h false refl) Weigh)
-    where
-      then : (a b : Bool) → (a ≡ true → b ≡ true) → (not a || b) ≡ true
-      then true b f = f refl
-      then false b f = refl
+  -- a repetition has a sample
+  repeats-allowed : (c : ℕ) → s .weighing .sampled ≡ true → StateTests p (withRepeating s (isSIR c))
+  repeats-allowed c sampled = with-repeating p s h (isSIR c) (rw sampled (or-true (not (isSIR c))))
 
-  zeroing-allowed : (c : ℕ) → StateTests p (zeroing p s c .state)
-  unfolding zeroing
-  zeroing-allowed c =
-      by-choice (λ x. StateTests p (x .state)) (eqb c placeZI)
-      (λ e.
+  run-allowed : (c : ℕ) → RunMay (situationOf p s) c → StateTests p (run p s c .state)
+  run-allowed c may =
+      run-cases (λ x. StateTests p (x .state)) p s c (may .ruled)
+      (λ few. h)
+      (λ e. begun-allowed p least (withRepeating s false) (with-repeating p s h false refl) Weigh)
+      (λ needs. repeats-allowed c (may .sample needs))
+      (λ e. begun-allowed p least s h Zero)
+      (λ needs.
       with-weighing p s h (zeroed p (s .weighing) placeZI (stability (s .weighing)) .weighing)
       (zeroed-moved p (s .weighing) (ranges-of p s h) placeZI (stability (s .weighing))))
-      (λ e. begun-allowed p least s h Zero)
-
-  taring-allowed : (c : ℕ) → StateTests p (taring p s c .state)
-  unfolding taring
-  taring-allowed c =
-      let Goal : Reaction → Type 0 = λ x. StateTests p (x .state) in
-      by-choice Goal (eqb c placeT)
+      (with-display p s h (weightShown (s .display)) refl)
       (λ e. begun-allowed p least s h Tare)
-      (λ e.
-      by-choice Goal (eqb c placeTI)
-      (λ f. with-weighing p s h (tared p (s .weighing) placeTI .weighing) (tared-moved p (s .weighing) (ranges-of p s h) placeTI))
-      (λ f.
-      by-choice Goal (eqb c placeTAC)
-      (λ g.
-      with-weighing p s h (withTare (s .weighing) 0) (tare-moved p (s .weighing) (ranges-of p s h) 0 zero-le))
-      (λ g. h)))
-
-  run-allowed : (c : ℕ) → (isSIR c ≡ true → s .weighing .sampled ≡ true) → StateTests p (run p s c .state)
-  unfolding run
-  run-allowed c sampled =
-      let Goal : Reaction → Type 0 = λ x. StateTests p (x .state) in
-      by-choice Goal (leb c 5)
+      (λ needs. with-weighing p s h (tared p (s .weighing) placeTI .weighing) (tared-moved p (s .weighing) (ranges-of p s h) placeTI))
+      (with-weighing p s h (withTare (s .weighing) 0) (tare-moved p (s .weighing) (ranges-of p s h) 0 zero-le))
       (λ e. h)
-      (λ e.
-      by-choice Goal (leb c 8)
-      (λ f. weighing-allowed c sampled)
-      (λ f.
-      by-choice Goal (leb c 10)
-      (λ g. zeroing-allowed c)
-      (λ g. by-choice Goal (leb c placeDW) (λ i. with-display p s h (weightShown (s .display)) refl) (λ i. taring-allowed c))))
 
   reset-allowed : StateTests p (resetState s)
   unfolding resetState
@@ -221,7 +189,7 @@ module _ (p : Profile) (least : 1 ≤ p .timeout) (s : State) (h : StateTests p 
   shown-allowed l n t =
       rw (le-leb n 20 (t .short), take-at (take n (drop 3 (l .bytes))) (drop n (s .display .text .bytes)) n (t .long)) (t .printable)
 
-  pub performed-allowed : (l : Line) (v : Verdict) → Proper (p .capacity) (s .weighing .sampled) l v → StateTests p (performed p s l v .state)
+  pub performed-allowed : (l : Line) (v : Verdict) → Proper (situationOf p s) l v → StateTests p (performed p s l v .state)
   performed-allowed l (Refused e) t = h
   performed-allowed l Reset t = reset-allowed
   performed-allowed l (Busy c) t = h
@@ -244,40 +212,34 @@ module _ (p : Profile) (profile : profileAllowed p ≡ true) (s : State) (allowe
       (λ e.
       let held : Holds l (finishedLine u) = holds-finished (s .line) u keeps b bad (sym same ∙ e) in
       let t : State = withLine s (clearedLine l) in
-      let v : Verdict = judgement (p .capacity) (p .resolution .unit) l (isPending (s .waiting .pending)) (s .weighing .sampled) in
+      let v : Verdict = judgement (situationOf p s) l in
       tests-allow p (performed p t l v .state)
       (performed-allowed p (allowed-profile p profile .limits .timeout-least) t (with-line p s h (clearedLine l) refl) l v
-      (verdict-proper (p .capacity) (p .resolution .unit) (finishedLine u) (isPending (s .waiting .pending)) (s .weighing .sampled) l held v
-      (sym (holds-judged (p .capacity) (p .resolution .unit) (isPending (s .waiting .pending)) (s .weighing .sampled) l (finishedLine u) held)))))
+      (verdict-proper (situationOf p s) (finishedLine u) l held v
+      (sym (holds-judged (situationOf p s) l (finishedLine u) held)))))
       (λ e.
       let kept = keeps-byte (s .line) u keeps b bad (sym same ∙ e) in
       tests-allow p (withLine s l) (with-line p s h l (le-leb (l .len) 64 (omega (arith, kept .held .len)))))
 
   pub sample-allowed : (z : Load) (stable : Bool) → stateAllowed p (sampleReaction p s z stable .state) ≡ true
-  unfolding sampleReaction waited
   sample-allowed z stable =
       let h : StateTests p s = allowed-tests p s allowed in
-      let t : State = withWeighing s (withSample (s .weighing) z stable) in
+      let t : State = sampledState s z stable in
       let k : StateTests p t =
       record { zero = h .zero; tare = h .tare; line = h .line; display = h .display; waiting = h .waiting; repeating = or-true (not (s .repeating)) }
       in
       let free : StateTests p (withWaiting t notWaiting) = with-waiting p t k notWaiting refl in
-      let Goal : Reaction → Type 0 = λ x. stateAllowed p (x .state) ≡ true in
-      by-choice Goal (isPending (s .waiting .pending))
-      (λ waits.
-      by-choice Goal stable
-      (λ e.
+      sample-cases (λ x. stateAllowed p (x .state) ≡ true) p s z stable
+      (λ waits e.
       let m : Measured = settled p (s .waiting .pending) (t .weighing) in
       tests-allow p (withWeighing (withWaiting t notWaiting) (m .weighing))
       (with-weighing p (withWaiting t notWaiting) free (m .weighing)
       (settled-moved p (t .weighing) (ranges-of p t k) (s .waiting .pending))))
-      (λ e.
-      by-choice Goal (leb (p .timeout) (s .waiting .unstable + 1))
-      (λ most. tests-allow p (withWaiting t notWaiting) free)
-      (λ less.
+      (λ waits e most. tests-allow p (withWaiting t notWaiting) free)
+      (λ waits e less.
       let w : Waiting = record { pending = s .waiting .pending; unstable = s .waiting .unstable + 1 } in
       tests-allow p (withWaiting t w)
       (with-waiting p t k w
-      (rw (lt-ltb (s .waiting .unstable + 1) (p .timeout) (leb-false (p .timeout) (s .waiting .unstable + 1) less))
-      (or-true (not (isPending (s .waiting .pending)))))))))
+      (rw (lt-ltb (s .waiting .unstable + 1) (p .timeout) less) (or-true (not (isPending (s .waiting .pending)))))))
+      (λ none. tests-allow p t k)
       (λ none. tests-allow p t k)

@@ -8,13 +8,13 @@ use lib.IntN.{pos, negℤ}
 use lib.Signed.{ltZ}
 use Rattle.answer.specs.declared.answer.Answer.{Answer}
 use Rattle.answer.specs.declared.answer.Answer.the-variants.{Nothing, Plain, Weight, Refused, Text, Listed, CommandList, Versions}
-use Rattle.answer.specs.Commands.{nameOf, levelOf}
+use Rattle.answer.specs.Commands.{nameOf, levelOf, placeS, placeZ, placeT}
 use Rattle.answer.specs.Lines.{lineEnd, quoted, headText, weightText, errorText, listedLine, listedFrom, lineOf}
 use Rattle.model.specs.declared.profile.Profile.{Profile}
 use Rattle.model.specs.declared.weighing.Weighing.{Weighing}
 use Rattle.device.specs.Calls.{answerBytes}
 use Rattle.model.specs.Profiles.{identityText}
-use Rattle.weighing.specs.Weighings.{placeS, placeZ, placeT, grossOf, netOf, headOf, numberOf, stability, inLimits, weighed, zeroed, tared}
+use Rattle.weighing.specs.Weighings.{grossOf, netOf, headOf, numberOf, stability, inLimits, weighed, zeroed, tared}
 use Rattle.answer.specs.declared.answer.Number.{Number}
 use Rattle.answer.specs.declared.answer.Status.{Status}
 use Rattle.answer.specs.declared.answer.Status.the-variants.{A, S, Over, Under}

@@ -13,9 +13,9 @@ use Rattle.model.specs.declared.state.State.{State}
 use Rattle.model.specs.Refusals.{numberOfRefusal}
 use Rattle.device.specs.Calls.{answerBytes}
 use Rattle.model.specs.Profiles.{profileAllowed}
-use Rattle.commands.specs.Reactions.{performed, byteReaction}
+use Rattle.commands.specs.Reactions.{performed, byteReaction, situationOf}
 use Rattle.waiting.specs.Waits.{withLine, sampleReaction}
-use Rattle.model.specs.States.{isPending, stateAllowed, startState}
+use Rattle.model.specs.States.{stateAllowed, startState}
 use Rattle.model.proofs.StateFacts.{start-allowed}
 use Rattle.line.specs.declared.receive.Line.{Line}
 use Rattle.line.specs.Judging.{judgement}
@@ -25,9 +25,11 @@ use Rattle.line.proofs.Kept.{Holds, Keeps, keeps-cleared, keeps-empty, markedAs
 use Rattle.history.specs.Tally.{Input, byteIs, sampleIs}
 use Rattle.history.specs.Waits.{Waits, startWaits, afterInput, waitsHold, WaitsEnd}
 use Rattle.history.proofs.Along.{Followed, Step, over-calls}
-use Rattle.history.proofs.WaitsAllowed.{by-choice, byte-allowed, sample-allowed}
+use Rattle.history.proofs.WaitsAllowed.{byte-allowed, sample-allowed}
 use Rattle.history.proofs.WaitsDelivered.{Delivered, given, withheld, byte-delivered, sample-delivered}
+use Rattle.history.proofs.Verdicts.{verdict-ruled}
 use Rattle.history.proofs.WaitsPerformed.{same-line, performed-kind}
+use Rattle.history.proofs.Ways.{by-choice}
 use Rattle.history.proofs.WaitsStep.{Follows, Reacts, ended-reacts, joined-reacts, sample-reacts}
 
 -- a byte that ends no line joins it
@@ -42,19 +44,19 @@ unfolding byteReaction
 byte-reacts p s w b bad old =
     let l : Line = receivedByte (s .line) b bad .line in
     let same : receivedByte (s .line) b bad .ended ≡ endsUnbounded (w .line) (markedAs b bad) = ends-alike (s .line) (w .line) (old .line) b bad in
-    let v = judgement (p .capacity) (p .resolution .unit) l (isPending (s .waiting .pending)) (s .weighing .sampled) in
+    let v = judgement (situationOf p s) l in
     let t : State = withLine s (clearedLine l) in
     by-choice (λ x. stateAllowed p (x .state) ≡ true → Reacts p w (byteIs (markedAs b bad)) x) (receivedByte (s .line) b bad .ended)
     (λ e allowed.
     let ends : endsUnbounded (w .line) (markedAs b bad) ≡ true = sym same ∙ e in
     let held : Holds l (finishedLine (w .line)) = holds-finished (s .line) (w .line) (old .line) b bad ends in
-    let kind = performed-kind p t l v in
+    let judged = holds-judged (situationOf p s) l (finishedLine (w .line)) held in
+    let kind = performed-kind p t l v (verdict-ruled (situationOf p s) (finishedLine (w .line)) v (sym judged)) in
     ended-reacts p s w (markedAs b bad) (performed p t l v) old allowed
     (rw (same-line kind) (keeps-cleared l (held .cells)))
     ends
-    (s .weighing .sampled)
     v
-    (holds-judged (p .capacity) (p .resolution .unit) (isPending (s .waiting .pending)) (s .weighing .sampled) l (finishedLine (w .line)) held)
+    judged
     t
     refl
     kind)

@@ -3,34 +3,29 @@
 use mathlib.Core.Path.{_≡_, refl, sym, ap, _∙_}
 use mathlib.Core.Bool.{Bool, true, false, cond, _&&_, _||_}
 use mathlib.Core.List.{List}
-use Prim.Native.Nat.{ℕ, _<_, _≤_}
-use native.Mathlib.Omega.{arith}
-use borrow.Author.Tests.{leb-true, leb-false, eqb-true, eqb-false}
-use lib.Dec.{leb, eqb}
+use Prim.Native.Nat.{ℕ}
 use Rattle.answer.specs.declared.answer.Answer.the-variants as answers
 use Rattle.answer.specs.declared.answer.Status.the-variants.{A}
-use Rattle.answer.specs.Commands.{nameOf}
+use Rattle.answer.specs.Commands.{nameOf, placeT, placeTI, placeZ, placeZI, isI0, isI1}
 use Rattle.model.specs.declared.profile.Profile.{Profile}
 use Rattle.waiting.specs.declared.react.Reaction.{Reaction}
 use Rattle.model.specs.declared.state.Pending.{Pending}
 use Rattle.model.specs.declared.state.Pending.the-variants.{Nothing, Weigh, Zero, Tare}
 use Rattle.model.specs.declared.state.State.{State}
 use Rattle.model.specs.declared.weighing.Weighing.{Weighing}
-use Rattle.commands.specs.Reactions.{weighing, zeroing, taring, run, resetState, performed}
+use Rattle.commands.specs.Reactions.{weighing, run, resetState, performed}
 use Rattle.waiting.specs.Waits.{withRepeating, notWaiting, settled, begun}
 use Rattle.device.specs.Calls.{answerBytes}
 use Rattle.model.specs.States.{isPending}
-use Rattle.weighing.specs.Weighings.{placeZ, placeZI, placeDW, placeT, placeTI, placeTAC, stability}
+use Rattle.weighing.specs.Weighings.{stability}
 use Rattle.line.specs.declared.judge.Verdict.{Verdict}
 use Rattle.line.specs.declared.judge.Verdict.the-variants.{Refused, Reset, Busy, Wrong, NoSample, Run, Preset, Show}
 use Rattle.line.specs.declared.receive.Line.{Line}
-use Rattle.line.specs.Judging.{isSI, isSIR}
 use Rattle.text.specs.Ascii.{ascii, sameText}
-use Rattle.weight.proofs.Allowed.{neither-left, neither-right}
 use Rattle.history.specs.Waits.{Awaited, nothing, command, isAwaiting, awaitedHolds}
-use Rattle.history.proofs.WaitsAllowed.{by-choice}
+use Rattle.history.proofs.Ways.{Ruled, by-choice, run-cases}
 use Rattle.history.proofs.WaitsAnswer.{isSilent, weighed-sent, zeroed-sent, tared-sent, weighed-own, zeroed-own, tared-own}
-use Rattle.history.proofs.Verdicts.{resets}
+use Rattle.history.proofs.Verdicts.{resets, RuledBy}
 
 -- S, T and Z
 abbrev pub isWaitName : List ℕ → Bool
@@ -99,60 +94,28 @@ module _ (p : Profile) (s : State) (c : ℕ) where
   informed-sent false true = refl
   informed-sent false false = refl
 
-  -- of S, SI and SIR only S begins a wait
-  weighing-kind : 5 < c → c ≤ 8 → Performed s (Run c) (weighing p s c)
-  unfolding weighing
-  weighing-kind low high =
-      by-choice (Performed s (Run c)) (isSI c || isSIR c)
-      (λ e. answered refl (weighed-sent p (s .weighing)) refl refl)
-      (λ e.
-      let n7 : c ≡ 7 → ⊥ = eqb-false c 7 (neither-left (isSI c) (isSIR c) e) in
-      let n8 : c ≡ 8 → ⊥ = eqb-false c 8 (neither-right (isSI c) (isSIR c) e) in
-      let is : c ≡ 6 = omega arith in
-      begun-kind (withRepeating s false) Weigh refl refl (rw is) (rw is))
+  -- of the commands only S, Z and T begin a wait
+  run-kind : Ruled c → Performed s (Run c) (run p s c)
+  run-kind ruled =
+      run-cases (Performed s (Run c)) p s c ruled
+      (λ few. answered refl (informed-sent (isI0 c) (isI1 c)) refl refl)
+      (λ is. begun-kind (withRepeating s false) Weigh refl refl (rw is) (rw is))
+      (λ needs. answered refl (weighed-sent p (s .weighing)) refl refl)
+      (λ is. begun-kind s Zero refl refl (rw is) (rw is))
+      (λ needs. answered refl (zeroed-sent p (s .weighing) placeZI (stability (s .weighing))) refl refl)
+      (answered refl refl refl refl)
+      (λ is. begun-kind s Tare refl refl (rw is) (rw is))
+      (λ needs. answered refl (tared-sent p (s .weighing) placeTI) refl refl)
+      (answered refl refl refl refl)
+      (λ is. answered refl refl refl refl)
 
-  -- of Z and ZI only Z does
-  zeroing-kind : 8 < c → c ≤ 10 → Performed s (Run c) (zeroing p s c)
-  unfolding zeroing
-  zeroing-kind low high =
-      by-choice (Performed s (Run c)) (eqb c placeZI)
-      (λ e. answered refl (zeroed-sent p (s .weighing) placeZI (stability (s .weighing))) refl refl)
-      (λ e.
-      let n10 : c ≡ 10 → ⊥ = eqb-false c 10 e in
-      let is : c ≡ 9 = omega arith in
-      begun-kind s Zero refl refl (rw is) (rw is))
-
-  -- of T, TA, TAC and TI only T does
-  taring-kind : Performed s (Run c) (taring p s c)
-  unfolding taring
-  taring-kind =
-      by-choice (Performed s (Run c)) (eqb c placeT)
-      (λ e. let is : c ≡ 14 = eqb-true c 14 e in begun-kind s Tare refl refl (rw is) (rw is))
-      (λ e.
-      by-choice (Performed s (Run c)) (eqb c placeTI)
-      (λ f. answered refl (tared-sent p (s .weighing) placeTI) refl refl)
-      (λ f. by-choice (Performed s (Run c)) (eqb c placeTAC) (λ g. answered refl refl refl refl) (λ g. answered refl refl refl refl)))
-
-  run-kind : Performed s (Run c) (run p s c)
-  unfolding run
-  run-kind =
-      by-choice (Performed s (Run c)) (leb c 5)
-      (λ e. answered refl (informed-sent (eqb c 0) (eqb c 1)) refl refl)
-      (λ e.
-      by-choice (Performed s (Run c)) (leb c 8)
-      (λ f. weighing-kind (leb-false c 5 e) (leb-true c 8 f))
-      (λ f.
-      by-choice (Performed s (Run c)) (leb c 10)
-      (λ g. zeroing-kind (leb-false c 8 f) (leb-true c 10 g))
-      (λ g. by-choice (Performed s (Run c)) (leb c placeDW) (λ h. answered refl refl refl refl) (λ h. taring-kind))))
-
-pub performed-kind : (p : Profile) (s : State) (l : Line) (v : Verdict) → Performed s v (performed p s l v)
+pub performed-kind : (p : Profile) (s : State) (l : Line) (v : Verdict) → RuledBy v → Performed s v (performed p s l v)
 unfolding resetState
-performed-kind p s l (Refused e) = answered refl refl refl refl
-performed-kind p s l Reset = dropped refl refl refl refl
-performed-kind p s l (Busy c) = answered refl refl refl refl
-performed-kind p s l (Wrong c) = answered refl refl refl refl
-performed-kind p s l (NoSample c) = answered refl refl refl refl
-performed-kind p s l (Run c) = run-kind p s c
-performed-kind p s l (Preset m) = answered refl refl refl refl
-performed-kind p s l (Show n) = answered refl refl refl refl
+performed-kind p s l (Refused e) r = answered refl refl refl refl
+performed-kind p s l Reset r = dropped refl refl refl refl
+performed-kind p s l (Busy c) r = answered refl refl refl refl
+performed-kind p s l (Wrong c) r = answered refl refl refl refl
+performed-kind p s l (NoSample c) r = answered refl refl refl refl
+performed-kind p s l (Run c) r = run-kind p s c r
+performed-kind p s l (Preset m) r = answered refl refl refl refl
+performed-kind p s l (Show n) r = answered refl refl refl refl

@@ -5,8 +5,7 @@ use mathlib.Core.Bool.{Bool, true, false, cond, not, _&&_, _||_, false≢true, t
 use mathlib.Core.List.{List, [], _∷_, map}
 use Prim.Native.Nat.{ℕ, suc, _+_, _<_, _≤_}
 use native.Mathlib.Omega.{arith}
-use borrow.Author.Tests.{leb-true, leb-false, eq-eqb, ne-eqb}
-use lib.Dec.{leb}
+use borrow.Author.Tests.{eq-eqb, ne-eqb}
 use Rattle.answer.specs.declared.answer.Answer.the-variants as answers
 use Rattle.answer.specs.declared.answer.Status.the-variants.{I}
 use Rattle.answer.specs.Lines.{headText, lineOf}
@@ -17,9 +16,10 @@ use Rattle.model.specs.declared.state.Pending.the-variants.{Nothing, Weigh, Zer
 use Rattle.model.specs.declared.state.State.{State}
 use Rattle.weight.specs.declared.loads.Load.{Load}
 use Rattle.device.specs.Calls.{answerBytes}
-use Rattle.waiting.specs.Waits.{withLine, withWeighing, withWaiting, reaction, measuredReaction, notWaiting, placeOfPending, settled, waited, sampleReaction}
+use Rattle.waiting.specs.Waits.{sampledState, withLine, withWaiting, reaction, measuredReaction, notWaiting, placeOfPending, settled, sampleReaction}
+use Rattle.commands.specs.Reactions.{situationOf}
 use Rattle.model.specs.States.{isPending, stateAllowed}
-use Rattle.weighing.specs.Weighings.{headOf, weighed, withSample}
+use Rattle.weighing.specs.Weighings.{headOf, weighed}
 use Rattle.line.specs.declared.judge.Verdict.{Verdict}
 use Rattle.line.specs.declared.receive.Line.{Line}
 use Rattle.line.specs.Unbounded.{Marked, byteIn, endsUnbounded, finishedLine, judgementOf}
@@ -28,7 +28,7 @@ use Rattle.line.proofs.Verdicts.{run-line}
 use Rattle.model.proofs.StateFacts.{allowed-state}
 use Rattle.history.specs.Tally.{Input, byteIs, sampleIs, isResetLine}
 use Rattle.history.specs.Waits.{Waits, nothing, command, isAwaiting, isEmpty, mayWait, afterLine, afterInput, byteHolds, awaitedHolds, inputHolds}
-use Rattle.history.proofs.WaitsAllowed.{by-choice}
+use Rattle.history.proofs.Ways.{sample-cases}
 use Rattle.history.proofs.WaitsAnswer.{isSilent, silent-empty}
 use Rattle.history.proofs.WaitsPerformed.{Performed, answered, dropped, begins, awaitedOf, awaiting-is, settled-sent, settled-own}
 use Rattle.history.proofs.Verdicts.{resets, reset-test}
@@ -114,29 +114,29 @@ module _ (p : Profile) (s : State) (w : Waits) (m : Marked) (x : Reaction) (old 
       }
 
   -- the verdict tells whether it was @
-  is-reset : (sampled : Bool) (v : Verdict)
-      → v ≡ judgementOf (p .capacity) (p .resolution .unit) (finishedLine (w .line)) (isPending (s .waiting .pending)) sampled
+  is-reset : (v : Verdict)
+      → v ≡ judgementOf (situationOf p s) (finishedLine (w .line))
       → isResetLine (finishedLine (w .line)) ≡ resets v
-  is-reset sampled v e =
-      sym (reset-test (p .capacity) (p .resolution .unit) (finishedLine (w .line)) (isPending (s .waiting .pending)) sampled) ∙ ap resets (sym e)
+  is-reset v e =
+      sym (reset-test (situationOf p s) (finishedLine (w .line))) ∙ ap resets (sym e)
 
   -- by the verdict
-  pub ended-reacts : (sampled : Bool) (v : Verdict)
-      → v ≡ judgementOf (p .capacity) (p .resolution .unit) (finishedLine (w .line)) (isPending (s .waiting .pending)) sampled
+  pub ended-reacts : (v : Verdict)
+      → v ≡ judgementOf (situationOf p s) (finishedLine (w .line))
       → (t : State)
       → t .waiting ≡ s .waiting
       → Performed t v x
       → Reacts p w (byteIs m) x
-  ended-reacts sampled v e t same (answered noreset sent kept line) =
-      let other = is-reset sampled v e ∙ noreset in
+  ended-reacts v e t same (answered noreset sent kept line) =
+      let other = is-reset v e ∙ noreset in
       let wait : x .state .waiting ≡ s .waiting = kept ∙ same in
       sent-reacts sent (rw (other, wait) (old .waiting)) (rw wait (old .counted))
-  ended-reacts sampled v e t same (dropped reset sent none line) =
-      sent-reacts sent (rw (is-reset sampled v e ∙ reset, none)) (rw none (λ f. absurd (false≢true f)))
-  ended-reacts sampled v e t same (begins c pending runs named waits silent now line) =
-      let was = run-line (p .capacity) (p .resolution .unit) (finishedLine (w .line)) (isPending (s .waiting .pending)) sampled (sym e ∙ runs) in
+  ended-reacts v e t same (dropped reset sent none line) =
+      sent-reacts sent (rw (is-reset v e ∙ reset, none)) (rw none (λ f. absurd (false≢true f)))
+  ended-reacts v e t same (begins c pending runs named waits silent now line) =
+      let was = run-line (situationOf p s) (finishedLine (w .line)) (sym e ∙ runs) in
       begins-reacts pending
-      (is-reset sampled v e ∙ ap resets runs)
+      (is-reset v e ∙ ap resets runs)
       silent
       (was .free)
       (rw (was .line .good, was .line .bytes) named)
@@ -263,23 +263,16 @@ module _ (p : Profile) (s : State) (w : Waits) (z : Load) (stable : Bool) (old :
 -- a sample, if the state after it is allowed
 pub sample-reacts : (p : Profile) (s : State) (w : Waits) (z : Load) (stable : Bool) → Follows p s w
     → stateAllowed p (sampleReaction p s z stable .state) ≡ true → Reacts p w (sampleIs (z .0) stable) (sampleReaction p s z stable)
-unfolding sampleReaction waited
 sample-reacts p s w z stable old =
-    let t : State = withWeighing s (withSample (s .weighing) z stable) in
-    let Goal : Reaction → Type 0 = λ x. stateAllowed p (x .state) ≡ true → Reacts p w (sampleIs (z .0) stable) x in
-    by-choice Goal (isPending (s .waiting .pending))
-    (λ waits.
-    by-choice Goal stable
-    (λ e. stable-reacts p s w z stable old waits
-    (measuredReaction (withWaiting t notWaiting) (settled p (s .waiting .pending) (t .weighing)))
-    e
+    let t : State = sampledState s z stable in
+    sample-cases (λ x. stateAllowed p (x .state) ≡ true → Reacts p w (sampleIs (z .0) stable) x) p s z stable
+    (λ waits e.
+    stable-reacts p s w z stable old waits (measuredReaction (withWaiting t notWaiting) (settled p (s .waiting .pending) (t .weighing))) e
     (settled-sent p (s .waiting .pending) (t .weighing) waits)
     (settled-own p (w .unstable) (s .waiting .pending) (t .weighing) e)
     refl
     refl)
-    (λ e.
-    by-choice Goal (leb (p .timeout) (s .waiting .unstable + 1))
-    (λ most. last-reacts p s w z stable old waits t e refl (leb-true (p .timeout) (s .waiting .unstable + 1) most))
-    (λ less. counted-reacts p s w z stable old waits t e refl (leb-false (p .timeout) (s .waiting .unstable + 1) less))))
-    (λ free.
-    free-reacts p s w z stable old (reaction t (cond (s .repeating) (weighed p (t .weighing)) answers.Nothing)) free refl refl)
+    (λ waits e most. last-reacts p s w z stable old waits t e refl most)
+    (λ waits e less. counted-reacts p s w z stable old waits t e refl less)
+    (λ free. free-reacts p s w z stable old (reaction t (weighed p (t .weighing))) free refl refl)
+    (λ free. free-reacts p s w z stable old (reaction t answers.Nothing) free refl refl)

@@ -7,11 +7,12 @@ use mathlib.Core.List.{List, _++_, append-assoc}
 use lib.IntN.{ℤ}
 use lib.ListN.{length, take, drop}
 use lib.Seq.{take-at, drop-at}
+use Rattle.answer.specs.Commands.{placeS, placeT, placeTA, placeTI}
 use Rattle.answer.specs.declared.answer.Answer.the-variants.{Weight}
 use Rattle.answer.specs.declared.answer.Status.the-variants.{A, S, D}
 use Rattle.answer.specs.Lines.{lineEnd, headText, weightText, lineOf}
 use Rattle.model.specs.declared.profile.Profile.{Profile}
-use Rattle.weighing.specs.Weighings.{headOf, numberOf, placeS, placeT, placeTA, placeTI}
+use Rattle.weighing.specs.Weighings.{headOf, numberOf}
 use Rattle.device.specs.Calls.{answerBytes}
 use Rattle.text.specs.declared.reading.FieldRead.the-variants.{Number as ReadNumber}
 use Rattle.text.specs.Ascii.{ascii, sameText}

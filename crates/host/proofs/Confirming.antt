@@ -9,7 +9,7 @@ use borrow.Author.Tests.{eqb-true, ltb-true}
 use lib.Dec.{eqb, leb, ltb}
 use lib.ListN.{length, getD, take, drop, length-append}
 use lib.Seq.{getD-append-add, drop-append-add}
-use Rattle.answer.specs.Commands.{nameOf, placeIn, placeOf}
+use Rattle.answer.specs.Commands.{nameOf, placeIn, placeOf, commandCount}
 use Rattle.answer.specs.Lines.{lineEnd, lineOf}
 use Rattle.answer.specs.declared.answer.Answer.{Answer}
 use Rattle.answer.specs.declared.answer.Answer.the-variants.{Nothing, Plain, Weight, Refused, Text, Listed, CommandList, Versions}
@@ -141,9 +141,9 @@ unfolding unitNamed firstNamed
 unit-some zero v u e = let z : _≡_ {A = ℕ} 0 1 = cc in absurd (omega arith)
 unit-some (suc k) v u e = omega arith
 
-name-some : (k : ℕ) (v : List ℕ) → placeOf (take k v) < 18 → 1 ≤ k
+name-some : (k : ℕ) (v : List ℕ) → placeOf (take k v) < commandCount → 1 ≤ k
 unfolding placeOf placeIn
-name-some zero v h = let z : 18 < 18 = h in absurd (omega arith)
+name-some zero v h = let z : commandCount < commandCount = h in absurd (omega arith)
 name-some (suc k) v h = omega arith
 
 text-after : (w r t : List ℕ) → length w ≡ 2 → take (length (w ++ (32 ∷ r)) - 9) (drop 6 (w ++ (32 ∷ r))) ≡ t
@@ -166,7 +166,7 @@ module _ (l : List ℕ) (spaced : hasSpace l ≡ true) where
       ap (λ (v : List ℕ). drop (length (beforeSpace l) + i) v) cut ∙ drop-append-add (beforeSpace l) (32 ∷ afterSpace l) i
 
   module _ (h : Head) (head : h ≡ headGuess l) where
-    head-name : h .identification < 18 → nameOf (h .identification) ≡ beforeSpace l
+    head-name : h .identification < commandCount → nameOf (h .identification) ≡ beforeSpace l
     head-name known =
         let place : h .identification ≡ placeOf (beforeSpace l) = ap (λ (x : Head). x .identification) head in
         ap nameOf place ∙ found-name (beforeSpace l) (rw place at known)
@@ -210,7 +210,7 @@ module _ (l : List ℕ) (spaced : hasSpace l ≡ true) where
   text-framed c place form =
       let w = beforeSpace l in
       let p = identity-place c form in
-      let known : placeOf w < 18 = rw (← place) (omega arith) in
+      let known : placeOf w < commandCount = rw (← place) (omega arith) in
       let name : nameOf c ≡ w = ap nameOf place ∙ found-name w known in
       let two : length w ≡ 2 = ap length (sym name) ∙ identity-width c form in
       let t = take (length l - 9) (drop 6 l) in
@@ -219,14 +219,14 @@ module _ (l : List ℕ) (spaced : hasSpace l ≡ true) where
       ∙ sym (ap₂ sameText (text-line c t ∙ ap (λ (v : List ℕ). v ++ (32 ∷ 65 ∷ 32 ∷ quotedEnd t)) name) cut)
 
   listed-framed : (last : Bool) (c : ℕ) (t : List ℕ) → placeOf (beforeSpace l) ≡ 0 → eqb (getD l 3 0) 65 ≡ last
-      → c ≡ placeOf (take (length l - 11) (drop 8 l)) → c < 18
+      → c ≡ placeOf (take (length l - 11) (drop 8 l)) → c < commandCount
       → listedFrame last c l && isEnded l ≡ sameText (lineOf (Listed last c) t) l
   listed-framed last c t place mark found h =
       let w = beforeSpace l in
       let r = afterSpace l in
       let first : ascii "I0" ≡ w = ap nameOf (sym place) ∙ found-name w (rw place (omega arith)) in
       let line : l ≡ 73 ∷ 48 ∷ 32 ∷ r = cut ∙ ap (λ (v : List ℕ). v ++ (32 ∷ r)) (sym first) in
-      let known : placeOf (take (length l - 11) (drop 8 l)) < 18 = rw (← found) h in
+      let known : placeOf (take (length l - 11) (drop 8 l)) < commandCount = rw (← found) h in
       let own : take (length l - 11) (drop 8 l) ≡ nameOf c = sym (ap nameOf found ∙ found-name (take (length l - 11) (drop 8 l)) known) in
       let some = name-some (length l - 11) (drop 8 l) known in
       let size = ap length line in
@@ -253,7 +253,7 @@ framed-same (Plain h) l g form = plain-framed l (g .spaced) h (g .head) [] (g .s
 framed-same (Weight h n) l g form = weight-framed l (g .spaced) h (g .head) n [] (g .field) (g .unit) (weight-head h n [] form)
 framed-same (Refused e) l g form = error-framed l [] e g
 framed-same (Text c) l g form = text-framed l (g .spaced) c (g .place) (text-command c (take (length l - 9) (drop 6 l)) form)
-framed-same (Listed last c) l g form = listed-framed l (g .spaced) last c [] (g .place) (g .mark) (g .name) (ltb-true c 18 (both-left (ltb c 18) true form))
+framed-same (Listed last c) l g form = listed-framed l (g .spaced) last c [] (g .place) (g .mark) (g .name) (ltb-true c commandCount (both-left (ltb c commandCount) true form))
 framed-same CommandList l g form = let z : _≡_ {A = ℕ} 0 1 = cc in absurd (omega arith)
 framed-same Versions l g form = versions-framed l []
 

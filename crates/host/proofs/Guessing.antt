@@ -9,7 +9,7 @@ use borrow.Author.Tests.{eq-eqb, ne-eqb, ltb-true, lt-leb}
 use lib.Dec.{eqb, ltb, leb, lit<}
 use lib.ListN.{length, drop, length-append}
 use lib.Seq.{getD-append-add, drop-append-add, take-append-seam, take-at}
-use Rattle.answer.specs.Commands.{nameOf, levelOf, placeIn, placeOf}
+use Rattle.answer.specs.Commands.{nameOf, levelOf, placeIn, placeOf, commandCount}
 use Rattle.answer.specs.Lines.{lineEnd, lineOf}
 use Rattle.answer.specs.declared.answer.Answer.{Answer}
 use Rattle.answer.specs.declared.answer.Answer.the-variants.{Nothing, Plain, Weight, Refused, Text, Listed, CommandList, Versions}
@@ -140,7 +140,7 @@ guessed-text c t e =
     ∙ long-guessed (nameOf c) (name-unspaced c) rest (omega (arith, length-append t (34 ∷ lineEnd)))
     ∙ rw (name-found c (omega arith), ne-eqb c 0 (λ e. omega arith), ne-eqb c 1 (λ e. omega arith), e)
 
-guessed-listed : (last : Bool) (c : ℕ) (t : List ℕ) → c < 18 → guessed (lineOf (Listed last c) t) ≡ Listed last c
+guessed-listed : (last : Bool) (c : ℕ) (t : List ℕ) → c < commandCount → guessed (lineOf (Listed last c) t) ≡ Listed last c
 guessed-listed last c t h =
     let n = nameOf c in
     let rest = listedByte last ∷ 32 ∷ digit (levelOf c) ∷ 32 ∷ quotedEnd n in
@@ -173,6 +173,6 @@ guessed-back (Plain h) t e = guessed-plain h t (both-left (plainForm (h .identif
 guessed-back (Weight h n) t e = guessed-weight h n (weight-head h n t e) (weight-fits h n t e) t
 guessed-back (Refused e) t form = guessed-error e t
 guessed-back (Text c) t e = guessed-text c t (text-command c t e)
-guessed-back (Listed last c) t e = guessed-listed last c t (ltb-true c 18 (both-left (ltb c 18) (noText t) e))
+guessed-back (Listed last c) t e = guessed-listed last c t (ltb-true c commandCount (both-left (ltb c commandCount) (noText t) e))
 guessed-back CommandList t e = let z : _≡_ {A = ℕ} 0 1 = cc in absurd (omega arith)
 guessed-back Versions t e = guessed-versions t

@@ -9,7 +9,7 @@ use borrow.Author.Tests.{eqb-true}
 use lib.Dec.{ltb}
 use lib.ListN.{length, length-append}
 use lib.Seq.{drop-append-add, take-append-seam}
-use Rattle.answer.specs.Commands.{nameOf}
+use Rattle.answer.specs.Commands.{nameOf, commandCount}
 use Rattle.answer.specs.Lines.{lineEnd, lineOf}
 use Rattle.answer.specs.declared.answer.Answer.{Answer}
 use Rattle.answer.specs.declared.answer.Answer.the-variants.{Nothing, Plain, Weight, Refused, Text, Listed, CommandList, Versions}
@@ -37,6 +37,6 @@ text-back (Plain h) t e = none-is t (both-right (plainForm (h .identification) (
 text-back (Weight h n) t e = none-is t (both-right (weightForm (h .identification) (h .status) && numberForm (h .identification) n) (noText t) e)
 text-back (Refused e) t form = none-is t form
 text-back (Text c) t e = rw (text-line c t) (text-stands (nameOf c) t (identity-width c (text-command c t e)))
-text-back (Listed last c) t e = none-is t (both-right (ltb c 18) (noText t) e)
+text-back (Listed last c) t e = none-is t (both-right (ltb c commandCount) (noText t) e)
 text-back CommandList t e = let z : _≡_ {A = ℕ} 0 1 = cc in absurd (omega arith)
 text-back Versions t e = none-is t e

@@ -39,7 +39,7 @@ use Rattle.line.specs.Unbounded.{
   judgementOf,
 }
 use Rattle.line.proofs.Joining.{no-room, next-cell}
-use Rattle.weight.specs.declared.units.WeightUnit.{WeightUnit}
+use Rattle.line.specs.declared.judge.Situation.{Situation}
 
 -- the line l holds the bytes f, the oldest first: the first 64 of them, and of the others that they came and whether one was faulty
 pub record Holds (l : Line) (f : List Marked) : Type 0 where
@@ -203,10 +203,10 @@ module _ (l : Line) (u : List Marked) (k : Keeps l u) (b : ℕ) (bad : Bool) whe
 
 -- ---- the judgement
 
-module _ (capacity : ℕ) (u : WeightUnit) (waiting sampled : Bool) where
+module _ (j : Situation) where
   -- of a line over 64 bytes only its marks count
   same-rows : (faulty over : Bool) (s t : List ℕ) → over ≡ true ⊎ s ≡ t
-      → textRows capacity u faulty over s waiting sampled ≡ textRows capacity u faulty over t waiting sampled
+      → textRows j faulty over s ≡ textRows j faulty over t
   unfolding textRows
   same-rows faulty over s t (inl e) = rw e
   same-rows faulty over s t (inr e) = rw e
@@ -217,16 +217,16 @@ module _ (capacity : ℕ) (u : WeightUnit) (waiting sampled : Bool) where
 
   -- both judgements are the table over the line's marks and bytes
   tally-judged-by : (f : List Marked)
-      → judgementOf capacity u f waiting sampled ≡ textRows capacity u (anyFaulty f) (ltb 64 (length f)) (map byteIn f) waiting sampled
+      → judgementOf j f ≡ textRows j (anyFaulty f) (ltb 64 (length f)) (map byteIn f)
   unfolding textRows judgementOf
   tally-judged-by f = refl
 
-  judged-by : (l : Line) → judgement capacity u l waiting sampled ≡ textRows capacity u (l .faulty) (l .over) (contentOf l) waiting sampled
+  judged-by : (l : Line) → judgement j l ≡ textRows j (l .faulty) (l .over) (contentOf l)
   unfolding textRows judgement
   judged-by l = refl
 
   -- what the judgement sees of the cells is what the tally's line shows
-  pub holds-judged : (l : Line) (f : List Marked) → Holds l f → judgement capacity u l waiting sampled ≡ judgementOf capacity u f waiting sampled
+  pub holds-judged : (l : Line) (f : List Marked) → Holds l f → judgement j l ≡ judgementOf j f
   holds-judged l f h =
       judged-by l
       ∙ rw (h .faulty, h .over, h .content)

@@ -9,11 +9,12 @@ use lib.Dec.{leb, eqb}
 use lib.ListN.{length, getD, take, drop, length-take, length-drop}
 use lib.Seq.{length-take-le}
 use borrow.Author.Tests.{le-leb, lt-leb, lt-ltb, le-ltb, leb-true}
+use Rattle.answer.specs.Commands.{placeD, placeTA}
+use Rattle.line.specs.declared.judge.Situation.{Situation}
 use Rattle.line.specs.declared.judge.Verdict.{Verdict}
 use Rattle.line.specs.declared.judge.Verdict.the-variants.{Wrong, Preset, Show}
 use Rattle.line.specs.Judging.{afterSpace, hasSpace, isPrintable, isShown, betweenQuotes, isQuoted, isPreset}
 use Rattle.line.specs.Parts.{showRule, amountRule, presetRule}
-use Rattle.weight.specs.declared.units.WeightUnit.{WeightUnit}
 use Rattle.weight.specs.declared.typed.Tare.{Tare}
 use Rattle.weight.specs.declared.typed.Typed.{Typed}
 use Rattle.weight.specs.declared.typed.Typed.the-variants.{Amount, TooLarge, NotTyped}
@@ -69,7 +70,7 @@ module _ (p : List ℕ) {q : Bool} (known : q ≡ isQuoted p) where
   unfolding showRule
   shows e = rw (sym known ∙ e)
 
-  pub shows-not : q ≡ false → Wrong 12 ≡ showRule p
+  pub shows-not : q ≡ false → Wrong placeD ≡ showRule p
   unfolding showRule
   shows-not e = rw (sym known ∙ e)
 
@@ -81,37 +82,37 @@ module _ (capacity : ℕ) (n : Typed) where
     unfolding amountRule
     within-capacity e = rw (told, sym known ∙ e)
 
-    pub above-capacity : within ≡ false → Wrong 15 ≡ amountRule capacity n
+    pub above-capacity : within ≡ false → Wrong placeTA ≡ amountRule capacity n
     unfolding amountRule
     above-capacity e = rw (told, sym known ∙ e)
 
-  pub too-large : n ≡ TooLarge → Wrong 15 ≡ amountRule capacity n
+  pub too-large : n ≡ TooLarge → Wrong placeTA ≡ amountRule capacity n
   unfolding amountRule
   too-large told = rw told
 
-  pub not-typed : n ≡ NotTyped → Wrong 15 ≡ amountRule capacity n
+  pub not-typed : n ≡ NotTyped → Wrong placeTA ≡ amountRule capacity n
   unfolding amountRule
   not-typed told = rw told
 
-module _ (capacity : ℕ) (u : WeightUnit) (p : List ℕ) (i : ℕ) (at : FirstAt space p i) where
+module _ (j : Situation) (p : List ℕ) (i : ℕ) (at : FirstAt space p i) where
   pub number-cells : i ≡ length (take i p)
   number-cells = sym (length-take-le i p (at .in-text))
 
-  pub no-space : length p ≤ i → Wrong 15 ≡ presetRule capacity u p
+  pub no-space : length p ≤ i → Wrong placeTA ≡ presetRule j p
   unfolding presetRule isPreset
   no-space h = rw (sym (at .has) ∙ le-ltb i (length p) h)
 
   -- what stands after the space is compared with the unit
-  module _ {same : Bool} (known : same ≡ sameText (take (length p - (i + 1)) (drop (i + 1) p)) (unitText u)) (h : i < length p) where
-    unit-of : sameText (afterSpace p) (unitText u) ≡ same
-    unit-of = sym (known ∙ ap (λ (t : List ℕ). sameText t (unitText u)) (rest-is (i + 1) p ∙ at .after))
+  module _ {same : Bool} (known : same ≡ sameText (take (length p - (i + 1)) (drop (i + 1) p)) (unitText (j .resolution .unit))) (h : i < length p) where
+    unit-of : sameText (afterSpace p) (unitText (j .resolution .unit)) ≡ same
+    unit-of = sym (known ∙ ap (λ (t : List ℕ). sameText t (unitText (j .resolution .unit))) (rest-is (i + 1) p ∙ at .after))
 
-    pub other-unit : same ≡ false → Wrong 15 ≡ presetRule capacity u p
+    pub other-unit : same ≡ false → Wrong placeTA ≡ presetRule j p
     unfolding presetRule isPreset
     other-unit e = rw (unit-of ∙ e, and-false (hasSpace p))
 
-    pub own-unit : {n : Typed} {r : Verdict} → same ≡ true → n ≡ readTyped u (take i p) → r ≡ amountRule capacity n
-        → r ≡ presetRule capacity u p
+    pub own-unit : {n : Typed} {r : Verdict} → same ≡ true → n ≡ readTyped (j .resolution .unit) (take i p) → r ≡ amountRule (j .capacity) n
+        → r ≡ presetRule j p
     unfolding presetRule isPreset amountRule
     own-unit e f g =
-        g ∙ ap (amountRule capacity) (f ∙ ap (readTyped u) (at .before)) ∙ rw (unit-of ∙ e, sym (at .has) ∙ lt-ltb i (length p) h)
+        g ∙ ap (amountRule (j .capacity)) (f ∙ ap (readTyped (j .resolution .unit)) (at .before)) ∙ rw (unit-of ∙ e, sym (at .has) ∙ lt-ltb i (length p) h)

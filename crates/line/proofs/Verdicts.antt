@@ -9,40 +9,18 @@ use lib.Dec.{leb, ltb}
 use lib.ListN.{length, take, drop, length-map, length-take, length-drop}
 use lib.Seq.{take-take}
 use borrow.Author.Tests.{eqb-true, eqb-false, leb-true, leb-false, ltb-false, not-true, not-false}
-use Rattle.answer.specs.Commands.{names, nameOf, placeOf, placeIn}
+use Rattle.answer.specs.Commands.{commandCount, isD, isReset, isTA, nameOf, names, needsSample, placeD, placeIn, placeOf, placeReset, placeTA, takesParameters}
+use Rattle.answer.proofs.Rows.{parameters-are}
 use Rattle.answer.proofs.Names.{found-name}
 use Rattle.line.specs.declared.receive.Line.{Line}
+use Rattle.line.specs.declared.judge.Situation.{Situation}
 use Rattle.line.specs.declared.judge.Verdict.{Verdict}
 use Rattle.line.specs.declared.judge.Verdict.the-variants.{Refused, Reset, Busy, Wrong, NoSample, Run, Preset, Show}
-use Rattle.line.specs.Judging.{
-  beforeSpace,
-  afterSpace,
-  hasSpace,
-  hasControl,
-  commandIn,
-  isD,
-  isTA,
-  isReset,
-  takesParameters,
-  needsSample,
-  isPrintable,
-  isShown,
-  betweenQuotes,
-  isQuoted,
-  typedIn,
-  presetOf,
-  amountIn,
-  isPreset,
-  isWrong,
-  ownRule,
-  firstRow,
-  judgement,
-}
+use Rattle.line.specs.Judging.{beforeSpace, afterSpace, hasSpace, hasControl, commandIn, isPrintable, isShown, betweenQuotes, isQuoted, typedIn, presetOf, amountIn, isPreset, isWrong, ownRule, firstRow, judgement}
 use Rattle.line.specs.Receiving.{contentOf}
 use Rattle.line.specs.Unbounded.{Marked, byteIn, anyFaulty, judgementOf}
 use Rattle.line.proofs.Kept.{Holds}
 use Rattle.line.proofs.Parameters.{Between, shown-between}
-use Rattle.weight.specs.declared.units.WeightUnit.{WeightUnit}
 use Rattle.weight.specs.declared.typed.Tare.{Tare}
 use Rattle.weight.specs.declared.typed.Typed.{Typed}
 use Rattle.weight.specs.declared.typed.Typed.the-variants.{Amount, TooLarge, NotTyped}
@@ -75,9 +53,9 @@ own-by true ta n c m = refl
 own-by false true n c m = refl
 own-by false false n c m = refl
 
-own-is : (u : WeightUnit) (c : ℕ) (t : List ℕ) → isOwn (ownRule u c t) ≡ true
+own-is : (j : Situation) (c : ℕ) (t : List ℕ) → isOwn (ownRule j c t) ≡ true
 unfolding ownRule
-own-is u c t = own-by (isD c) (isTA c && hasSpace t) (length (afterSpace t) - 2) c (amountIn (typedIn u (afterSpace t)))
+own-is j c t = own-by (isD c) (isTA c && hasSpace t) (length (afterSpace t) - 2) c (amountIn (typedIn j (afterSpace t)))
 
 -- rows 1 to 3 do not apply
 record Known (faulty unknown extra : Bool) : Type 0 where
@@ -186,16 +164,16 @@ rows-5-to-7 false false false false false false false c own v o k e =
 -- ---- the line's parts
 
 -- the bytes before the first space are the command's name
-name-before : (t : List ℕ) → commandIn t < 18 → beforeSpace t ≡ nameOf (commandIn t)
+name-before : (t : List ℕ) → commandIn t < commandCount → beforeSpace t ≡ nameOf (commandIn t)
 unfolding commandIn
 name-before t h = sym (found-name (beforeSpace t) h)
 
 -- a name alone
-name-alone : (t : List ℕ) → commandIn t < 18 → hasSpace t ≡ false → t ≡ nameOf (commandIn t)
+name-alone : (t : List ℕ) → commandIn t < commandCount → hasSpace t ≡ false → t ≡ nameOf (commandIn t)
 name-alone t h e = sym (none-between space t e .0) ∙ name-before t h
 
 -- a name and a parameter
-name-then : (t : List ℕ) → commandIn t < 18 → hasSpace t ≡ true → t ≡ nameOf (commandIn t) ++ (space ∷ afterSpace t)
+name-then : (t : List ℕ) → commandIn t < commandCount → hasSpace t ≡ true → t ≡ nameOf (commandIn t) ++ (space ∷ afterSpace t)
 name-then t h e = first-between space t e ∙ ap (λ (n : List ℕ). n ++ (space ∷ afterSpace t)) (name-before t h)
 
 -- ---- what callers use
@@ -210,39 +188,39 @@ abbrev pub parameterIn : List Marked → List ℕ
 parameterIn f = afterSpace (map byteIn f)
 
 -- a line judged to the command c alone
-pub record RunLine (f : List Marked) (waiting sampled : Bool) (c : ℕ) : Type 0 where
+pub record RunLine (j : Situation) (f : List Marked) (c : ℕ) : Type 0 where
   pub line : GoodLine f (nameOf c)
-  pub a-name : c < 18
-  pub no-reset : c ≡ 11 → ⊥
-  pub no-show : c ≡ 12 → ⊥
-  pub free : waiting ≡ false
-  pub has-sample : (needsSample c && not sampled) ≡ false
+  pub a-name : c < commandCount
+  pub no-reset : c ≡ placeReset → ⊥
+  pub no-show : c ≡ placeD → ⊥
+  pub free : j .waiting ≡ false
+  pub has-sample : (needsSample c && not (j .sampled)) ≡ false
 
 -- a line whose command c is not carried out
 pub record KeptLine (f : List Marked) (c : ℕ) : Type 0 where
   pub good : anyFaulty f ≡ false
   pub command : commandIn (map byteIn f) ≡ c
-  pub a-name : c < 18
-  pub no-reset : c ≡ 11 → ⊥
+  pub a-name : c < commandCount
+  pub no-reset : c ≡ placeReset → ⊥
 
 -- a line judged to TA with the amount m
-pub record PresetLine (capacity : ℕ) (u : WeightUnit) (f : List Marked) (waiting : Bool) (m : Tare) : Type 0 where
+pub record PresetLine (j : Situation) (f : List Marked) (m : Tare) : Type 0 where
   pub line : GoodLine f (ascii "TA " ++ parameterIn f)
-  pub parts : parameterIn f ≡ beforeSpace (parameterIn f) ++ (space ∷ unitText u)
-  pub unit : afterSpace (parameterIn f) ≡ unitText u
-  pub number : readTyped u (beforeSpace (parameterIn f)) ≡ Amount m
-  pub within : m .0 ≤ capacity
-  pub free : waiting ≡ false
+  pub parts : parameterIn f ≡ beforeSpace (parameterIn f) ++ (space ∷ unitText (j .resolution .unit))
+  pub unit : afterSpace (parameterIn f) ≡ unitText (j .resolution .unit)
+  pub number : readTyped (j .resolution .unit) (beforeSpace (parameterIn f)) ≡ Amount m
+  pub within : m .0 ≤ j .capacity
+  pub free : j .waiting ≡ false
 
 -- a line judged to D with a text of n bytes, from its fourth on
-pub record ShowLine (f : List Marked) (waiting : Bool) (n : ℕ) : Type 0 where
+pub record ShowLine (j : Situation) (f : List Marked) (n : ℕ) : Type 0 where
   pub line : GoodLine f (ascii "D " ++ parameterIn f)
   pub in-cells : length f ≤ 64
   pub text : betweenQuotes (parameterIn f) ≡ take n (drop 3 (map byteIn f))
   pub shown : isShown (betweenQuotes (parameterIn f)) ≡ true
   pub count : length (betweenQuotes (parameterIn f)) ≡ n
   pub short : n ≤ 20
-  pub free : waiting ≡ false
+  pub free : j .waiting ≡ false
 
 -- n bytes of a line's cells that D takes
 pub record Shown (l : Line) (n : ℕ) : Type 0 where
@@ -254,7 +232,7 @@ pub record Shown (l : Line) (n : ℕ) : Type 0 where
 record Begins (f : List Marked) : Type 0 where
   good : anyFaulty f ≡ false
   in-cells : length f ≤ 64
-  a-name : commandIn (map byteIn f) < 18
+  a-name : commandIn (map byteIn f) < commandCount
   alone : (hasSpace (map byteIn f) && not (takesParameters (commandIn (map byteIn f)))) ≡ false
 
 begins : (f : List Marked)
@@ -266,7 +244,7 @@ begins f k =
       good = k .good;
       in-cells = ltb-false 64 (length f) (neither-left (ltb 64 (length f)) (hasControl (map byteIn f)) few);
       a-name =
-          leb-false 18 (commandIn (map byteIn f))
+          leb-false commandCount (commandIn (map byteIn f))
           (neither-right (ltb 64 (length f) || hasControl (map byteIn f)) (leb (length names) (commandIn (map byteIn f))) (k .named));
       alone = k .alone;
     }
@@ -306,16 +284,16 @@ wrong-takes false false x y e = never (cc)
 
 -- D with right parameters: the space after it, and the text between quotes
 record Showing (c : ℕ) (t : List ℕ) (n : ℕ) : Type 0 where
-  is : c ≡ 12
+  is : c ≡ placeD
   spaced : hasSpace t ≡ true
   quotes : Between (afterSpace t)
   count : length (afterSpace t) - 2 ≡ n
 
-showing : (capacity : ℕ) (u : WeightUnit) (c n : ℕ) (t : List ℕ) → isWrong capacity u c t ≡ false → ownRule u c t ≡ Show n → Showing c t n
+showing : (j : Situation) (c n : ℕ) (t : List ℕ) → isWrong j c t ≡ false → ownRule j c t ≡ Show n → Showing c t n
 unfolding ownRule isWrong
-showing capacity u c n t right own =
-    let by = show-by (isD c) (isTA c && hasSpace t) (length (afterSpace t) - 2) c n (amountIn (typedIn u (afterSpace t))) own in
-    let is : c ≡ 12 = eqb-true c 12 (by .0) in
+showing j c n t right own =
+    let by = show-by (isD c) (isTA c && hasSpace t) (length (afterSpace t) - 2) c n (amountIn (typedIn j (afterSpace t))) own in
+    let is : c ≡ placeD = eqb-true c placeD (by .0) in
     let fine : (hasSpace t && isQuoted (afterSpace t)) ≡ true =
     not-false (hasSpace t && isQuoted (afterSpace t)) (neither-left (not (hasSpace t && isQuoted (afterSpace t))) false (rw is at right)) in
     let both = and-eq-true-iff (hasSpace t) (isQuoted (afterSpace t)) .0 fine in
@@ -327,78 +305,78 @@ amount-by capacity (Amount m) e = (refl, leb-true (m .0) capacity e)
 amount-by capacity TooLarge e = never (cc)
 amount-by capacity NotTyped e = never (cc)
 
-module _ (capacity : ℕ) (u : WeightUnit) (f : List Marked) (waiting sampled : Bool) where
+module _ (j : Situation) (f : List Marked) where
   abbrev c : ℕ
   c = commandIn (map byteIn f)
 
   abbrev wrong : Bool
-  wrong = isWrong capacity u c (map byteIn f)
+  wrong = isWrong j c (map byteIn f)
 
   abbrev own : Verdict
-  own = ownRule u c (map byteIn f)
+  own = ownRule j c (map byteIn f)
 
   -- only the one good byte @ is judged a reset
-  pub reset-line : judgementOf capacity u f waiting sampled ≡ Reset → GoodLine f (ascii "@")
+  pub reset-line : judgementOf j f ≡ Reset → GoodLine f (ascii "@")
   unfolding judgementOf
   reset-line e =
       let row = row-4 (anyFaulty f) (ltb 64 (length f) || hasControl (map byteIn f) || leb (length names) c)
-      (hasSpace (map byteIn f) && not (takesParameters c)) (isReset c) waiting wrong (needsSample c && not sampled) c own
-      (own-is u c (map byteIn f)) e in
+      (hasSpace (map byteIn f) && not (takesParameters c)) (isReset c) (j .waiting) wrong (needsSample c && not (j .sampled)) c own
+      (own-is j c (map byteIn f)) e in
       let b : Begins f = begins f (row .0) in
-      let is : c ≡ 11 = eqb-true c 11 (row .1) in
+      let is : c ≡ placeReset = eqb-true c placeReset (row .1) in
       let single : hasSpace (map byteIn f) ≡ false = no-space (hasSpace (map byteIn f)) (takesParameters c) (rw is) (b .alone) in
       record { bytes = name-alone (map byteIn f) (b .a-name) single ∙ ap nameOf is; good = b .good }
 
   -- and that byte always is
-  pub reset-judged : GoodLine f (ascii "@") → judgementOf capacity u f waiting sampled ≡ Reset
+  pub reset-judged : GoodLine f (ascii "@") → judgementOf j f ≡ Reset
   unfolding judgementOf commandIn placeOf placeIn
   reset-judged g =
       let one : length f ≡ 1 = sym (length-map f byteIn) ∙ ap length (g .bytes) in
       rw (g .good, g .bytes, one)
 
-  last : {v : Verdict} → isOwn v ≡ true → judgementOf capacity u f waiting sampled ≡ v
+  last : {v : Verdict} → isOwn v ≡ true → judgementOf j f ≡ v
       → Last (anyFaulty f) (ltb 64 (length f) || hasControl (map byteIn f) || leb (length names) c) (hasSpace (map byteIn f) && not (takesParameters c))
-      (isReset c) waiting wrong (needsSample c && not sampled) own v
+      (isReset c) (j .waiting) wrong (needsSample c && not (j .sampled)) own v
   unfolding judgementOf
   last {v} o e =
       row-8 (anyFaulty f) (ltb 64 (length f) || hasControl (map byteIn f) || leb (length names) c)
-      (hasSpace (map byteIn f) && not (takesParameters c)) (isReset c) waiting wrong (needsSample c && not sampled) c own v o e
+      (hasSpace (map byteIn f) && not (takesParameters c)) (isReset c) (j .waiting) wrong (needsSample c && not (j .sampled)) c own v o e
 
   -- ---- the command alone
 
-  pub run-line : {k : ℕ} → judgementOf capacity u f waiting sampled ≡ Run k → RunLine f waiting sampled k
+  pub run-line : {k : ℕ} → judgementOf j f ≡ Run k → RunLine j f k
   unfolding ownRule
   run-line {k} e =
       let row = last refl e in
       let b : Begins f = begins f (row .known) in
-      let by = run-by (isD c) (isTA c && hasSpace (map byteIn f)) (length (parameterIn f) - 2) c k (amountIn (typedIn u (parameterIn f))) (row .own-rule) in
+      let by = run-by (isD c) (isTA c && hasSpace (map byteIn f)) (length (parameterIn f) - 2) c k (amountIn (typedIn j (parameterIn f))) (row .own-rule) in
       let single : hasSpace (map byteIn f) ≡ false =
-      nothing-after (hasSpace (map byteIn f)) (isD c) (isTA c) (by .0) (by .1) (b .alone) in
+      nothing-after (hasSpace (map byteIn f)) (isD c) (isTA c) (by .0) (by .1) (rw (← (parameters-are c)) at (b .alone)) in
       record {
         line = record { bytes = name-alone (map byteIn f) (b .a-name) single ∙ ap nameOf (by .2); good = b .good };
         a-name = rw (by .2) at (b .a-name);
-        no-reset = rw (by .2) at (eqb-false c 11 (row .no-reset));
-        no-show = rw (by .2) at (eqb-false c 12 (by .0));
+        no-reset = rw (by .2) at (eqb-false c placeReset (row .no-reset));
+        no-show = rw (by .2) at (eqb-false c placeD (by .0));
         free = row .free;
         has-sample = rw (by .2) at (row .sampled);
       }
 
   -- ---- TA with a number
 
-  pub preset-line : {m : Tare} → judgementOf capacity u f waiting sampled ≡ Preset m → PresetLine capacity u f waiting m
+  pub preset-line : {m : Tare} → judgementOf j f ≡ Preset m → PresetLine j f m
   unfolding ownRule isWrong isPreset
   preset-line {m} e =
       let row = last refl e in
       let b : Begins f = begins f (row .known) in
-      let by = preset-by (isD c) (isTA c && hasSpace (map byteIn f)) (length (parameterIn f) - 2) c (amountIn (typedIn u (parameterIn f))) m (row .own-rule) in
+      let by = preset-by (isD c) (isTA c && hasSpace (map byteIn f)) (length (parameterIn f) - 2) c (amountIn (typedIn j (parameterIn f))) m (row .own-rule) in
       let both = and-eq-true-iff (isTA c) (hasSpace (map byteIn f)) .0 (by .1) in
-      let is : c ≡ 15 = eqb-true c 15 (both .0) in
-      let right : isPreset capacity u (parameterIn f) ≡ true =
-      not-false (isPreset capacity u (parameterIn f)) (rw (is, both .1) at (row .right)) in
-      let parts = and-eq-true-iff (hasSpace (parameterIn f) && sameText (afterSpace (parameterIn f)) (unitText u)) (presetOf capacity (typedIn u (parameterIn f))) .0 right in
-      let halves = and-eq-true-iff (hasSpace (parameterIn f)) (sameText (afterSpace (parameterIn f)) (unitText u)) .0 (parts .0) in
-      let unit : afterSpace (parameterIn f) ≡ unitText u = same-is (afterSpace (parameterIn f)) (unitText u) (halves .1) in
-      let amount = amount-by capacity (typedIn u (parameterIn f)) (parts .1) in
+      let is : c ≡ placeTA = eqb-true c placeTA (both .0) in
+      let right : isPreset j (parameterIn f) ≡ true =
+      not-false (isPreset j (parameterIn f)) (rw (is, both .1) at (row .right)) in
+      let parts = and-eq-true-iff (hasSpace (parameterIn f) && sameText (afterSpace (parameterIn f)) (unitText (j .resolution .unit))) (presetOf (j .capacity) (typedIn j (parameterIn f))) .0 right in
+      let halves = and-eq-true-iff (hasSpace (parameterIn f)) (sameText (afterSpace (parameterIn f)) (unitText (j .resolution .unit))) .0 (parts .0) in
+      let unit : afterSpace (parameterIn f) ≡ unitText (j .resolution .unit) = same-is (afterSpace (parameterIn f)) (unitText (j .resolution .unit)) (halves .1) in
+      let amount = amount-by (j .capacity) (typedIn j (parameterIn f)) (parts .1) in
       record {
         line = record { bytes = name-then (map byteIn f) (b .a-name) (both .1) ∙ ap (λ (x : ℕ). nameOf x ++ (space ∷ parameterIn f)) is; good = b .good };
         parts = first-between space (parameterIn f) (halves .0) ∙ ap (λ (x : List ℕ). beforeSpace (parameterIn f) ++ (space ∷ x)) unit;
@@ -410,11 +388,11 @@ module _ (capacity : ℕ) (u : WeightUnit) (f : List Marked) (waiting sampled : 
 
   -- ---- D with a text
 
-  pub show-line : {n : ℕ} → judgementOf capacity u f waiting sampled ≡ Show n → ShowLine f waiting n
+  pub show-line : {n : ℕ} → judgementOf j f ≡ Show n → ShowLine j f n
   show-line {n} e =
       let row = last refl e in
       let b : Begins f = begins f (row .known) in
-      let d : Showing c (map byteIn f) n = showing capacity u c n (map byteIn f) (row .right) (row .own-rule) in
+      let d : Showing c (map byteIn f) n = showing j c n (map byteIn f) (row .right) (row .own-rule) in
       let text : GoodLine f (ascii "D " ++ parameterIn f) =
       record {
         bytes = name-then (map byteIn f) (b .a-name) (d .spaced) ∙ ap (λ (x : ℕ). nameOf x ++ (space ∷ parameterIn f)) (d .is);
@@ -432,52 +410,52 @@ module _ (capacity : ℕ) (u : WeightUnit) (f : List Marked) (waiting sampled : 
 
   -- ---- a command that is not carried out
 
-  kept : {v : Verdict} → isKept v ≡ true → judgementOf capacity u f waiting sampled ≡ v
-      → KeptLine f (keptFrom v) × (keptBy v waiting wrong (needsSample c && not sampled) ≡ true)
+  kept : {v : Verdict} → isKept v ≡ true → judgementOf j f ≡ v
+      → KeptLine f (keptFrom v) × (keptBy v (j .waiting) wrong (needsSample c && not (j .sampled)) ≡ true)
   unfolding judgementOf
   kept {v} k e =
       let row = rows-5-to-7 (anyFaulty f) (ltb 64 (length f) || hasControl (map byteIn f) || leb (length names) c)
-      (hasSpace (map byteIn f) && not (takesParameters c)) (isReset c) waiting wrong (needsSample c && not sampled) c own v
-      (own-is u c (map byteIn f)) k e in
+      (hasSpace (map byteIn f) && not (takesParameters c)) (isReset c) (j .waiting) wrong (needsSample c && not (j .sampled)) c own v
+      (own-is j c (map byteIn f)) k e in
       let b : Begins f = begins f (row .known) in (
         record {
           good = b .good;
           command = row .command;
           a-name = rw (row .command) at (b .a-name);
-          no-reset = rw (row .command) at (eqb-false c 11 (row .no-reset));
+          no-reset = rw (row .command) at (eqb-false c placeReset (row .no-reset));
         },
         row .reason,
       )
 
-  pub busy-line : {k : ℕ} → judgementOf capacity u f waiting sampled ≡ Busy k → KeptLine f k × (waiting ≡ true)
+  pub busy-line : {k : ℕ} → judgementOf j f ≡ Busy k → KeptLine f k × (j .waiting ≡ true)
   busy-line e = kept refl e
 
-  pub wrong-line : {k : ℕ} → judgementOf capacity u f waiting sampled ≡ Wrong k → KeptLine f k × (takesParameters k ≡ true)
+  pub wrong-line : {k : ℕ} → judgementOf j f ≡ Wrong k → KeptLine f k × (takesParameters k ≡ true)
   unfolding isWrong
   wrong-line e =
       let row = kept refl e in (
         row .0,
-        rw (row .0 .command) at (wrong-takes (isD c) (isTA c) (not (hasSpace (map byteIn f) && isQuoted (parameterIn f)))
-            (hasSpace (map byteIn f) && not (isPreset capacity u (parameterIn f))) (row .1)),
+        rw (row .0 .command) at (sym (parameters-are c) ∙ wrong-takes (isD c) (isTA c) (not (hasSpace (map byteIn f) && isQuoted (parameterIn f)))
+            (hasSpace (map byteIn f) && not (isPreset j (parameterIn f))) (row .1)),
       )
 
-  pub no-sample-line : {k : ℕ} → judgementOf capacity u f waiting sampled ≡ NoSample k → KeptLine f k × (needsSample k ≡ true) × (sampled ≡ false)
+  pub no-sample-line : {k : ℕ} → judgementOf j f ≡ NoSample k → KeptLine f k × (needsSample k ≡ true) × (j .sampled ≡ false)
   no-sample-line e =
       let row = kept refl e in
-      let both = and-eq-true-iff (needsSample c) (not sampled) .0 (row .1) in
-      (row .0, rw (row .0 .command) at (both .0), not-true sampled (both .1))
+      let both = and-eq-true-iff (needsSample c) (not (j .sampled)) .0 (row .1) in
+      (row .0, rw (row .0 .command) at (both .0), not-true (j .sampled) (both .1))
 
 -- ---- the text that D shows, in the cells
 
 -- it has at most 20 bytes, whatever the cells hold
-pub show-short : (capacity : ℕ) (u : WeightUnit) (l : Line) (waiting sampled : Bool) {n : ℕ} → judgement capacity u l waiting sampled ≡ Show n → n ≤ 20
+pub show-short : (j : Situation) (l : Line) {n : ℕ} → judgement j l ≡ Show n → n ≤ 20
 unfolding judgement
-show-short capacity u l waiting sampled {n} e =
+show-short j l {n} e =
     let c = commandIn (contentOf l) in
     let row =
-    row-8 (l .faulty) (l .over || hasControl (contentOf l) || leb (length names) c) (hasSpace (contentOf l) && not (takesParameters c)) (isReset c) waiting
-    (isWrong capacity u c (contentOf l)) (needsSample c && not sampled) c (ownRule u c (contentOf l)) (Show n) refl e in
-    let d : Showing c (contentOf l) n = showing capacity u c n (contentOf l) (row .right) (row .own-rule) in
+    row-8 (l .faulty) (l .over || hasControl (contentOf l) || leb (length names) c) (hasSpace (contentOf l) && not (takesParameters c)) (isReset c) (j .waiting)
+    (isWrong j c (contentOf l)) (needsSample c && not (j .sampled)) c (ownRule j c (contentOf l)) (Show n) refl e in
+    let d : Showing c (contentOf l) n = showing j c n (contentOf l) (row .right) (row .own-rule) in
     omega (arith, d .quotes .few, d .count)
 
 -- a part of the first k of a list is a part of the list
@@ -487,8 +465,8 @@ part-of-front n (suc j) zero xs h = let none : n ≡ 0 = omega arith in rw none
 part-of-front n (suc j) (suc k) [] h = refl
 part-of-front n (suc j) (suc k) (x ∷ xs) h = part-of-front n j k xs (omega arith)
 
-pub show-cells : (l : Line) (f : List Marked) (waiting : Bool) (n : ℕ) → Holds l f → ShowLine f waiting n → Shown l n
-show-cells l f waiting n held h =
+pub show-cells : (j : Situation) (l : Line) (f : List Marked) (n : ℕ) → Holds l f → ShowLine j f n → Shown l n
+show-cells j l f n held h =
     let count : length (take n (drop 3 (map byteIn f))) ≡ n = sym (ap length (h .text)) ∙ h .count in
     let room : n ≤ length f - 3 = omega (arith, count, length-take n (drop 3 (map byteIn f)), length-drop 3 (map byteIn f), length-map f byteIn) in
     let same : take n (drop 3 (l .bytes)) ≡ betweenQuotes (parameterIn f) =

@@ -6,12 +6,12 @@ use mathlib.Core.List.{List, [], _∷_}
 use lib.Dec.{leb, ltb, eqb}
 use lib.ListN.{length, getD, take, drop}
 use Rattle.answer.specs.declared.answer.Error.the-variants.{Syntax, Transmission, Logical}
-use Rattle.answer.specs.Commands.{names, placeOf}
+use Rattle.answer.specs.Commands.{names, placeOf, isD, isReset, isTA, takesParameters, needsSample}
 use Rattle.line.specs.declared.receive.Line.{Line}
+use Rattle.line.specs.declared.judge.Situation.{Situation}
 use Rattle.line.specs.declared.judge.Verdict.{Verdict}
 use Rattle.line.specs.declared.judge.Verdict.the-variants.{Refused, Reset, Busy, Wrong, NoSample, Run, Preset, Show}
 use Rattle.line.specs.Receiving.{contentOf}
-use Rattle.weight.specs.declared.units.WeightUnit.{WeightUnit}
 use Rattle.weight.specs.declared.typed.Tare.{Tare}
 use Rattle.weight.specs.declared.typed.Typed.{Typed}
 use Rattle.weight.specs.declared.typed.Typed.the-variants.{Amount, TooLarge, NotTyped}
@@ -42,37 +42,6 @@ hasControl (c ∷ t) = ltb c 32 || hasControl t
 -- the command that the line names
 unfoldable pub commandIn : List ℕ → ℕ
 commandIn t = placeOf (beforeSpace t)
-
--- ---- the commands' places that the table speaks of
-
-abbrev pub isSI : ℕ → Bool
-isSI c = eqb c 7
-
-abbrev pub isSIR : ℕ → Bool
-isSIR c = eqb c 8
-
-abbrev pub isZI : ℕ → Bool
-isZI c = eqb c 10
-
-abbrev pub isReset : ℕ → Bool
-isReset c = eqb c 11
-
-abbrev pub isD : ℕ → Bool
-isD c = eqb c 12
-
-abbrev pub isTA : ℕ → Bool
-isTA c = eqb c 15
-
-abbrev pub isTI : ℕ → Bool
-isTI c = eqb c 17
-
--- a name that takes parameters
-abbrev pub takesParameters : ℕ → Bool
-takesParameters c = isD c || isTA c
-
--- SI, SIR, TI, ZI
-abbrev pub needsSample : ℕ → Bool
-needsSample c = isSI c || isSIR c || isTI c || isZI c
 
 -- ---- parameters
 
@@ -108,19 +77,19 @@ amountIn TooLarge = record { 0 = 0 }
 amountIn NotTyped = record { 0 = 0 }
 
 -- the number of TA number unit
-abbrev pub typedIn : WeightUnit → List ℕ → Typed
-typedIn unit p = readTyped unit (beforeSpace p)
+abbrev pub typedIn : Situation → List ℕ → Typed
+typedIn j p = readTyped (j .resolution .unit) (beforeSpace p)
 
 -- number, space, the profile's unit; not above C
-unfoldable pub isPreset : ℕ → WeightUnit → List ℕ → Bool
-isPreset capacity unit p =
-    (hasSpace p && sameText (afterSpace p) (unitText unit)) && presetOf capacity (typedIn unit p)
+unfoldable pub isPreset : Situation → List ℕ → Bool
+isPreset j p =
+    (hasSpace p && sameText (afterSpace p) (unitText (j .resolution .unit))) && presetOf (j .capacity) (typedIn j p)
 
 -- a name that takes parameters, with wrong ones; TA may stand alone
-unfoldable pub isWrong : ℕ → WeightUnit → ℕ → List ℕ → Bool
-isWrong capacity unit c t =
+unfoldable pub isWrong : Situation → ℕ → List ℕ → Bool
+isWrong j c t =
     (isD c && not (hasSpace t && isQuoted (afterSpace t)))
-    || (isTA c && (hasSpace t && not (isPreset capacity unit (afterSpace t))))
+    || (isTA c && (hasSpace t && not (isPreset j (afterSpace t))))
 
 -- ---- the table
 
@@ -129,10 +98,10 @@ abbrev pub unknownIn : Bool → List ℕ → Bool
 unknownIn over t = over || hasControl t || leb (length names) (commandIn t)
 
 -- the command's own rule, with its parameter
-unfoldable pub ownRule : WeightUnit → ℕ → List ℕ → Verdict
-ownRule unit c t =
+unfoldable pub ownRule : Situation → ℕ → List ℕ → Verdict
+ownRule j c t =
     cond (isD c) (Show (length (afterSpace t) - 2))
-    (cond (isTA c && hasSpace t) (Preset (amountIn (typedIn unit (afterSpace t)))) (Run c))
+    (cond (isTA c && hasSpace t) (Preset (amountIn (typedIn j (afterSpace t)))) (Run c))
 
 -- the first row that applies
 abbrev pub firstRow : Bool → Bool → Bool → Bool → Bool → Bool → Bool → ℕ → Verdict → Verdict
@@ -146,19 +115,19 @@ firstRow faulty unknown extra reset waiting wrong missing c own =
     (cond missing (NoSample c) own))))))
 
 -- over a line's marks and its bytes
-abbrev pub table : ℕ → WeightUnit → Bool → Bool → List ℕ → Bool → Bool → Verdict
-table capacity unit faulty over t waiting sampled =
+abbrev pub table : Situation → Bool → Bool → List ℕ → Verdict
+table j faulty over t =
     let c = commandIn t in
     firstRow
     faulty
     (unknownIn over t)
     (hasSpace t && not (takesParameters c))
     (isReset c)
-    waiting
-    (isWrong capacity unit c t)
-    (needsSample c && not sampled)
+    (j .waiting)
+    (isWrong j c t)
+    (needsSample c && not (j .sampled))
     c
-    (ownRule unit c t)
+    (ownRule j c t)
 
-unfoldable pub judgement : ℕ → WeightUnit → Line → Bool → Bool → Verdict
-judgement capacity unit l waiting sampled = table capacity unit (l .faulty) (l .over) (contentOf l) waiting sampled
+unfoldable pub judgement : Situation → Line → Verdict
+judgement j l = table j (l .faulty) (l .over) (contentOf l)

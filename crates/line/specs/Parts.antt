@@ -4,39 +4,30 @@ use Prim.Native.Nat.{ℕ, _-_}
 use mathlib.Core.Bool.{Bool, cond, not, _&&_}
 use mathlib.Core.List.{List}
 use lib.ListN.{length}
+use Rattle.answer.specs.Commands.{needsSample, placeD, placeTA}
+use Rattle.line.specs.declared.judge.Situation.{Situation}
 use Rattle.line.specs.declared.judge.Verdict.{Verdict}
 use Rattle.line.specs.declared.judge.Verdict.the-variants.{Wrong, NoSample, Preset, Show}
-use Rattle.line.specs.Judging.{
-  isQuoted,
-  typedIn,
-  presetOf,
-  amountIn,
-  isPreset,
-  isWrong,
-  needsSample,
-  table,
-  ownRule,
-}
-use Rattle.weight.specs.declared.units.WeightUnit.{WeightUnit}
+use Rattle.line.specs.Judging.{isQuoted, typedIn, presetOf, amountIn, isPreset, isWrong, table, ownRule}
 use Rattle.weight.specs.declared.typed.Typed.{Typed}
 
 -- rows 6 to 8 of D with the parameter p
 unfoldable pub showRule : List ℕ → Verdict
-showRule p = cond (isQuoted p) (Show (length p - 2)) (Wrong 12)
+showRule p = cond (isQuoted p) (Show (length p - 2)) (Wrong placeD)
 
 -- rows 6 to 8 of TA with a number as read
 unfoldable pub amountRule : ℕ → Typed → Verdict
-amountRule capacity n = cond (presetOf capacity n) (Preset (amountIn n)) (Wrong 15)
+amountRule capacity n = cond (presetOf capacity n) (Preset (amountIn n)) (Wrong placeTA)
 
 -- rows 6 to 8 of TA with the parameter p
-unfoldable pub presetRule : ℕ → WeightUnit → List ℕ → Verdict
-presetRule capacity unit p = cond (isPreset capacity unit p) (Preset (amountIn (typedIn unit p))) (Wrong 15)
+unfoldable pub presetRule : Situation → List ℕ → Verdict
+presetRule j p = cond (isPreset j p) (Preset (amountIn (typedIn j p))) (Wrong placeTA)
 
 -- rows 6 to 8
-unfoldable pub lastRows : ℕ → WeightUnit → ℕ → List ℕ → Bool → Verdict
-lastRows capacity unit c t sampled =
-    cond (isWrong capacity unit c t) (Wrong c) (cond (needsSample c && not sampled) (NoSample c) (ownRule unit c t))
+unfoldable pub lastRows : Situation → ℕ → List ℕ → Verdict
+lastRows j c t =
+    cond (isWrong j c t) (Wrong c) (cond (needsSample c && not (j .sampled)) (NoSample c) (ownRule j c t))
 
 -- the table over a line's marks and its bytes, shut
-unfoldable pub textRows : ℕ → WeightUnit → Bool → Bool → List ℕ → Bool → Bool → Verdict
-textRows capacity unit faulty over t waiting sampled = table capacity unit faulty over t waiting sampled
+unfoldable pub textRows : Situation → Bool → Bool → List ℕ → Verdict
+textRows j faulty over t = table j faulty over t

@@ -6,10 +6,10 @@ use mathlib.Core.Bool.{Bool, false, cond, not, _&&_, _||_}
 use mathlib.Core.List.{List, [], _∷_, map, reverse}
 use lib.Dec.{ltb, eqb}
 use lib.ListN.{length, drop}
+use Rattle.line.specs.declared.judge.Situation.{Situation}
 use Rattle.line.specs.declared.judge.Verdict.{Verdict}
 use Rattle.line.specs.Receiving.{carriageReturn, lineFeed, lineLimit}
 use Rattle.line.specs.Judging.{table}
-use Rattle.weight.specs.declared.units.WeightUnit.{WeightUnit}
 
 pub record Marked : Type 0 where
   pub byte : ℕ
@@ -44,6 +44,5 @@ anyFaulty [] = false
 anyFaulty (m ∷ u) = m .faulty || anyFaulty u
 
 -- the judging table over a finished line
-unfoldable pub judgementOf : ℕ → WeightUnit → List Marked → Bool → Bool → Verdict
-judgementOf capacity unit f waiting sampled =
-    table capacity unit (anyFaulty f) (ltb lineLimit (length f)) (map byteIn f) waiting sampled
+unfoldable pub judgementOf : Situation → List Marked → Verdict
+judgementOf j f = table j (anyFaulty f) (ltb lineLimit (length f)) (map byteIn f)

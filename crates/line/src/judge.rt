@@ -1,7 +1,9 @@
 // The first row of the judging table that applies.
 ghost use mathlib.Core.Path.{_≡_};
+ghost use mathlib.Core.Bool.{not, _&&_};
 ghost use Prim.Native.Nat.{min};
-ghost use Rattle.line.specs.Judging.{takesParameters, needsSample, judgement};
+ghost use Rattle.answer.specs.Commands.{takesParameters, needsSample};
+ghost use Rattle.line.specs.Judging.{judgement};
 ghost use Rattle.line.specs.Receiving.{lineLimit};
 ghost use Rattle.line.specs.Parts.{lastRows, textRows};
 ghost use Rattle.weight.specs.Ascii.{space};
@@ -14,15 +16,21 @@ use answer::D;
 use answer::Error;
 use answer::NONE;
 use answer::RESET;
-use answer::SI;
-use answer::SIR;
 use answer::TA;
-use answer::TI;
-use answer::ZI;
 use answer::find_command;
+use answer::needs_sample;
+use answer::takes_parameters;
 use text::first_at;
+use weight::Resolution;
 use weight::Tare;
-use weight::WeightUnit;
+
+// What the table asks of the device: document 01's C, how weights are shown, whether a command waits, and whether there was a sample.
+pub struct Situation {
+    pub capacity: u32,
+    pub resolution: Resolution,
+    pub waiting: bool,
+    pub sampled: bool,
+}
 
 pub enum Verdict {
     Refused(Error),
@@ -41,29 +49,17 @@ pub enum Verdict {
 
 const LINE_LIMIT: usize = 64;
 
-fn takes_parameters(command: u8) -> bool
-    ensures { λ r. ⌜ r ≡ takesParameters command ⌝ }
+// Whether the command asks for a sample and there is none.
+fn lacks_sample(situation: Situation, command: u8) -> bool
+    ensures { λ r. ⌜ r ≡ needsSample command && not (situation .sampled) ⌝ }
 {
-    (command == D) | (command == TA)
-}
-
-fn needs_sample(command: u8) -> bool
-    ensures { λ r. ⌜ r ≡ needsSample command ⌝ }
-{
-    (command == SI) | (command == SIR) | (command == TI) | (command == ZI)
+    needs_sample(command) & !situation.sampled
 }
 
 // Rows 6 to 8, which alone look at what follows the name.
-fn last_rows(
-    capacity: u32,
-    unit: WeightUnit,
-    command: u8,
-    text: &[u8],
-    end: usize,
-    sampled: bool,
-) -> Verdict
+fn last_rows(situation: Situation, command: u8, text: &[u8], end: usize) -> Verdict
     requires { ⌜ FirstAt space (now text) end ⌝ }
-    ensures { λ r. ⌜ r ≡ lastRows capacity unit command (now (text .entry)) sampled ⌝ }
+    ensures { λ r. ⌜ r ≡ lastRows situation command (now (text .entry)) ⌝ }
 {
     if command == D {
         if end < text.len() {
@@ -75,26 +71,18 @@ fn last_rows(
     if command == TA {
         if end < text.len() {
             let start = end + 1;
-            return preset_rule(capacity, unit, &text[start..]);
+            return preset_rule(situation, &text[start..]);
         }
         return Verdict::Run(TA);
     }
-    if needs_sample(command) & !sampled {
+    if lacks_sample(situation, command) {
         return Verdict::NoSample(command);
     }
     Verdict::Run(command)
 }
 
-fn judge_text(
-    capacity: u32,
-    unit: WeightUnit,
-    faulty: bool,
-    over: bool,
-    text: &[u8],
-    waiting: bool,
-    sampled: bool,
-) -> Verdict
-    ensures { λ r. ⌜ r ≡ textRows capacity unit faulty over (now (text .entry)) waiting sampled ⌝ }
+fn judge_text(situation: Situation, faulty: bool, over: bool, text: &[u8]) -> Verdict
+    ensures { λ r. ⌜ r ≡ textRows situation faulty over (now (text .entry)) ⌝ }
 {
     let end = first_at(text, b' ');
     let command = find_command(&text[..end]);
@@ -112,10 +100,10 @@ fn judge_text(
     if command == RESET {
         return Verdict::Reset;
     }
-    if waiting {
+    if situation.waiting {
         return Verdict::Busy(command);
     }
-    last_rows(capacity, unit, command, text, end, sampled)
+    last_rows(situation, command, text, end)
 }
 
 // How many cells hold the line: all of them where `len` says more.
@@ -129,24 +117,10 @@ fn cells_held(len: u8) -> usize
     n
 }
 
-pub fn judge_line(
-    capacity: u32,
-    unit: WeightUnit,
-    line: Line,
-    waiting: bool,
-    sampled: bool,
-) -> Verdict
-    ensures { λ r. ⌜ r ≡ judgement capacity unit line waiting sampled ⌝ }
+pub fn judge_line(situation: Situation, line: Line) -> Verdict
+    ensures { λ r. ⌜ r ≡ judgement situation line ⌝ }
 {
     let bytes = line.bytes;
     let n = cells_held(line.len);
-    judge_text(
-        capacity,
-        unit,
-        line.faulty,
-        line.over,
-        &bytes[..n],
-        waiting,
-        sampled,
-    )
+    judge_text(situation, line.faulty, line.over, &bytes[..n])
 }

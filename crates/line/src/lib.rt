@@ -4,6 +4,7 @@ mod parameter;
 mod receive;
 mod scan;
 
+pub use judge::Situation;
 pub use judge::Verdict;
 pub use judge::judge_line;
 pub use receive::Line;

@@ -2,6 +2,7 @@
 ghost use mathlib.Core.Path.{_≡_};
 ghost use Rattle.line.specs.Judging.{isShown, isQuoted};
 ghost use Rattle.line.specs.Parts.{showRule, amountRule, presetRule};
+use crate::judge::Situation;
 use crate::judge::Verdict;
 use crate::scan::is_printable;
 use answer::D;
@@ -10,7 +11,6 @@ use text::first_at;
 use text::is_unit;
 use text::read_typed;
 use weight::Typed;
-use weight::WeightUnit;
 use weight::is_tare_within;
 
 const QUOTE: u8 = 34;
@@ -67,16 +67,18 @@ fn amount_rule(capacity: u32, typed: Typed) -> Verdict
 }
 
 // What TA does with its parameter: number, space, the profile's unit.
-pub fn preset_rule(capacity: u32, unit: WeightUnit, parameter: &[u8]) -> Verdict
-    ensures { λ r. ⌜ r ≡ presetRule capacity unit (now (parameter .entry)) ⌝ }
+pub fn preset_rule(situation: Situation, parameter: &[u8]) -> Verdict
+    ensures { λ r. ⌜ r ≡ presetRule situation (now (parameter .entry)) ⌝ }
 {
+    let resolution = situation.resolution;
+    let unit = resolution.unit;
     let space = first_at(parameter, b' ');
     if parameter.len() <= space {
         return Verdict::Wrong(TA);
     }
     let start = space + 1;
     if is_unit(&parameter[start..], unit) {
-        return amount_rule(capacity, read_typed(unit, &parameter[..space]));
+        return amount_rule(situation.capacity, read_typed(unit, &parameter[..space]));
     }
     Verdict::Wrong(TA)
 }

@@ -3,6 +3,7 @@
 use Prim.Native.Nat.{ℕ, _+_}
 use mathlib.Core.Bool.{Bool, true, false, cond, _&&_, _||_}
 use lib.Dec.{leb}
+use Rattle.answer.specs.Commands.{placeS, placeT, placeZ}
 use Rattle.answer.specs.declared.answer.Answer.{Answer}
 use Rattle.answer.specs.declared.answer.Answer.the-variants.{Plain}
 use Rattle.answer.specs.declared.answer.Answer.the-variants as answers
@@ -19,7 +20,7 @@ use Rattle.model.specs.declared.weighing.Weighing.{Weighing}
 use Rattle.model.specs.States.{isPending}
 use Rattle.waiting.specs.declared.react.Reaction.{Reaction}
 use Rattle.weighing.specs.declared.weighing.Measured.{Measured}
-use Rattle.weighing.specs.Weighings.{placeS, placeZ, placeT, headOf, weighed, withSample, zeroed, tared}
+use Rattle.weighing.specs.Weighings.{headOf, weighed, withSample, zeroed, tared}
 
 -- ---- the groups of the state, each put back alone
 

@@ -5,6 +5,7 @@ use mathlib.Core.Path.{_≡_}
 use mathlib.Core.Bool.{Bool, true, false}
 use lib.IntN.{ℤ, pos, negℤ, natAbs}
 use lib.Signed.{ltZ}
+use Rattle.answer.specs.Commands.{placeS}
 use Rattle.answer.specs.declared.answer.Answer.{Answer}
 use Rattle.answer.specs.declared.answer.Answer.the-variants.{Plain, Weight}
 use Rattle.answer.specs.declared.answer.Number.{Number}
@@ -16,12 +17,12 @@ use Rattle.weighing.specs.declared.weighing.Measured.{Measured}
 use Rattle.weighing.specs.Weighings.{grossOf, netOf, headOf, stability, numberOf, weighed, withTare, withZero, zeroed, tared}
 
 module _ (p : Profile) (w : Weighing) {gross : ℤ} (g : gross ≡ grossOf w) where
-  pub weighed-over : {over : Bool} {a : Answer} → over ≡ ltZ (pos (p .capacity)) gross → over ≡ true → a ≡ Plain (headOf 6 Over) → a ≡ weighed p w
+  pub weighed-over : {over : Bool} {a : Answer} → over ≡ ltZ (pos (p .capacity)) gross → over ≡ true → a ≡ Plain (headOf placeS Over) → a ≡ weighed p w
   unfolding weighed
   weighed-over e t r = rw (r, ← g, ← e, t)
 
   pub weighed-under : {over under : Bool} {a : Answer} → over ≡ ltZ (pos (p .capacity)) gross → over ≡ false
-      → under ≡ ltZ gross (negℤ (pos (p .underload))) → under ≡ true → a ≡ Plain (headOf 6 Under) → a ≡ weighed p w
+      → under ≡ ltZ gross (negℤ (pos (p .underload))) → under ≡ true → a ≡ Plain (headOf placeS Under) → a ≡ weighed p w
   unfolding weighed
   weighed-under e t f u r = rw (r, ← g, ← e, t, ← f, u)
 
@@ -33,7 +34,7 @@ module _ (p : Profile) (w : Weighing) {gross : ℤ} (g : gross ≡ grossOf w) wh
       → net ≡ netOf w
       → status ≡ stability w
       → n ≡ numberOf p net
-      → a ≡ Weight (headOf 6 status) n
+      → a ≡ Weight (headOf placeS status) n
       → a ≡ weighed p w
   unfolding weighed
   weighed-net e t f u h s n r = rw (r, n, s, h, ← g, ← e, t, ← f, u)

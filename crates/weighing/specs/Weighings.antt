@@ -4,6 +4,7 @@ use Prim.Native.Nat.{ℕ}
 use mathlib.Core.Bool.{Bool, true, false, cond, _||_}
 use lib.IntN.{ℤ, pos, negℤ, natAbs, _-ℤ_}
 use lib.Signed.{ltZ}
+use Rattle.answer.specs.Commands.{placeS, placeTA}
 use Rattle.answer.specs.declared.answer.Answer.{Answer}
 use Rattle.answer.specs.declared.answer.Answer.the-variants.{Plain, Weight}
 use Rattle.answer.specs.declared.answer.Head.{Head}
@@ -15,35 +16,6 @@ use Rattle.weight.specs.declared.loads.Load.{Load}
 use Rattle.model.specs.declared.weighing.Weighing.{Weighing}
 use Rattle.weighing.specs.declared.weighing.Measured.{Measured}
 use Rattle.weight.specs.Printing.{printedNumber}
-
--- ---- the places of the commands in I0's order
-
-abbrev pub placeS : ℕ
-placeS = 6
-
-abbrev pub placeZ : ℕ
-placeZ = 9
-
-abbrev pub placeZI : ℕ
-placeZI = 10
-
-abbrev pub placeD : ℕ
-placeD = 12
-
-abbrev pub placeDW : ℕ
-placeDW = 13
-
-abbrev pub placeT : ℕ
-placeT = 14
-
-abbrev pub placeTA : ℕ
-placeTA = 15
-
-abbrev pub placeTAC : ℕ
-placeTAC = 16
-
-abbrev pub placeTI : ℕ
-placeTI = 17
 
 -- ---- weights
 

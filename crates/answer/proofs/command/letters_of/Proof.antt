@@ -1,6 +1,7 @@
 -- `letters_of` meets its contract: the match has the table of the names.
 -- Assumes nothing.
 use Rattle.weight.proofs.Matching.{none-of}
+use Rattle.answer.specs.Commands.{commandCount}
 use Rattle.answer.proofs.Names.{no-name}
 use Rattle.answer.proofs.command.letters_of.Statement.{statement}
 use Rattle.answer.proofs.command.letters_of.Tie as tie
@@ -60,7 +61,7 @@ returns-18 : tie.Need-returns-18
 returns-18 c = rw (c .match .keys18)
 
 returns-19 : tie.Need-returns-19
-returns-19 c = rw (no-name (c .before .args .command) (none-of 18 (c .before .args .command) (c .match .rest)))
+returns-19 c = rw (no-name (c .before .args .command) (none-of commandCount (c .before .args .command) (c .match .rest)))
 
 pub letters-of-spec : {M : Type 1} → statement M
 letters-of-spec =

@@ -3,8 +3,8 @@ use Rattle.commands.proofs.LineVerdicts.{shows-short}
 use Rattle.commands.proofs.perform.line_reaction.Statement.{statement}
 use Rattle.commands.proofs.perform.line_reaction.Tie as tie
 
-is-pending-requires : tie.Need-is-pending-requires
-is-pending-requires c κs = search needs
+situation-of-requires : tie.Need-situation-of-requires
+situation-of-requires c κs = search needs
 
 judge-line-requires : tie.Need-judge-line-requires
 judge-line-requires c κs = search needs
@@ -17,16 +17,16 @@ with-line-requires c κs = search needs
 
 performed-requires : tie.Need-performed-requires
 performed-requires c κs =
-    rw (c .before .before .judge-line .ensures) (shows-short _ _ (c .before .before .before .before .before .before .before .before .args .state .line) _ _)
+    rw (c .before .before .judge-line .ensures) (shows-short _ (c .before .before .before .before .before .args .state .line))
 
 returns : tie.Need-returns
-returns c = rw (c .performed .ensures, c .before .with-line .ensures, c .before .before .cleared .ensures, c .before .before .before .judge-line .ensures, c .before .before .before .before .is-pending .ensures)
+returns c = rw (c .performed .ensures, c .before .with-line .ensures, c .before .before .cleared .ensures, c .before .before .before .judge-line .ensures, c .before .before .before .before .situation-of .ensures)
 
 pub line-reaction-spec : {M : Type 1} → statement M
 line-reaction-spec =
     tie.close
     (tie.spec
-    is-pending-requires
+    situation-of-requires
     judge-line-requires
     cleared-requires
     with-line-requires

@@ -1,5 +1,5 @@
 use borrow.Author.Needs.{needs}
-use Rattle.commands.proofs.OwnRule.{taring-begun, taring-at-once, taring-cleared, taring-asked}
+use Rattle.commands.proofs.OwnRule.{taring-begun, taring-at-once, taring-cleared, taring-asked, taring-nothing}
 use Rattle.commands.proofs.run.run_taring.Statement.{statement}
 use Rattle.commands.proofs.run.run_taring.Tie as tie
 
@@ -42,6 +42,12 @@ answered-requires-2 c κs = search needs
 returns-4 : tie.Need-returns-4
 returns-4 c = search (needs, taring-asked)
 
+unanswered-requires : tie.Need-unanswered-requires
+unanswered-requires c κs = search needs
+
+returns-5 : tie.Need-returns-5
+returns-5 c = search (needs, taring-nothing)
+
 pub run-taring-spec : {M : Type 1} → statement M
 run-taring-spec =
     tie.close
@@ -58,4 +64,6 @@ run-taring-spec =
     returns-3
     tare-answer-requires
     answered-requires-2
-    returns-4)
+    returns-4
+    unanswered-requires
+    returns-5)

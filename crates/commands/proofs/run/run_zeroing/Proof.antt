@@ -1,8 +1,16 @@
-use borrow.Author.Tests.{eq-eqb, ne-eqb}
 use borrow.Author.Needs.{needs}
-use Rattle.commands.specs.Reactions.{zeroing}
+use Rattle.commands.proofs.OwnRule.{zeroing-begun, zeroing-at-once}
 use Rattle.commands.proofs.run.run_zeroing.Statement.{statement}
 use Rattle.commands.proofs.run.run_zeroing.Tie as tie
+
+may-wait-requires : tie.Need-may-wait-requires
+may-wait-requires c κs = search needs
+
+begun-requires : tie.Need-begun-requires
+begun-requires c κs = search needs
+
+returns : tie.Need-returns
+returns c = search (needs, zeroing-begun)
 
 stability-requires : tie.Need-stability-requires
 stability-requires c κs = search needs
@@ -13,24 +21,17 @@ zeroed-requires c κs = search needs
 measured-reaction-requires : tie.Need-measured-reaction-requires
 measured-reaction-requires c κs = search needs
 
-returns : tie.Need-returns
-unfolding zeroing
-returns c = rw (c .measured-reaction .ensures, c .before .zeroed .ensures, c .before .before .stability .ensures, eq-eqb _ _ (c .before .before .before .before .if1 .taken))
-
-begun-requires : tie.Need-begun-requires
-begun-requires c κs = search needs
-
 returns-2 : tie.Need-returns-2
-unfolding zeroing
-returns-2 c = rw (c .begun .ensures, ne-eqb _ _ (c .before .if1 .left))
+returns-2 c = search (needs, zeroing-at-once)
 
 pub run-zeroing-spec : {M : Type 1} → statement M
 run-zeroing-spec =
     tie.close
     (tie.spec
+    may-wait-requires
+    begun-requires
+    returns
     stability-requires
     zeroed-requires
     measured-reaction-requires
-    returns
-    begun-requires
     returns-2)

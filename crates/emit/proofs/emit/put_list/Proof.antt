@@ -4,6 +4,7 @@ use mathlib.Core.Path.{_≡_, refl}
 use Prim.Native.Nat.{_≤_, _-_}
 use native.Mathlib.Omega.{arith}
 use lib.ListN.{length}
+use Rattle.answer.specs.Commands.{commandCount}
 use Rattle.emit.proofs.Laying.{Laid}
 use Rattle.emit.proofs.Listing.{listedTo, line-room, line-more, line-last}
 use borrow.Author.Needs.{needs}
@@ -11,10 +12,10 @@ use Rattle.emit.proofs.emit.put_list.Statement.{statement}
 use Rattle.emit.proofs.emit.put_list.Tie as tie
 
 abbrev Inv-loop : tie.InvT-loop
-Inv-loop out₀ at next₀ command₀ out next command = (command ≤ 18) × (length out ≡ length out₀) × Laid out₀ at out next (listedTo command)
+Inv-loop out₀ at next₀ command₀ out next command = (command ≤ commandCount) × (length out ≡ length out₀) × Laid out₀ at out next (listedTo command)
 
 abbrev μ-loop : tie.MeasureT-loop
-μ-loop out₀ at next₀ command₀ out next command = 18 - command
+μ-loop out₀ at next₀ command₀ out next command = commandCount - command
 
 loop-holds : tie.Need-loop-holds Inv-loop μ-loop
 unfolding listedTo

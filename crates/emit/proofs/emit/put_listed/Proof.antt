@@ -2,7 +2,7 @@
 -- Assumes nothing.
 use Rattle.emit.proofs.Laying.{laid-3, room-1-of-3, room-2-of-3, room-3-of-3}
 use Rattle.emit.proofs.Lines.{listed-pieces}
-use Rattle.answer.proofs.Names.{level-small}
+use Rattle.answer.proofs.Rows.{level-small}
 use borrow.Author.Needs.{needs}
 use native.Mathlib.Omega.{arith}
 use Rattle.emit.proofs.emit.put_listed.Statement.{statement}

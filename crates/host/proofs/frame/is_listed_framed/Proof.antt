@@ -2,7 +2,7 @@
 -- Assumes nothing.
 use borrow.Author.Needs.{needs}
 use native.Mathlib.Omega.{arith}
-use Rattle.answer.proofs.Names.{level-small}
+use Rattle.answer.proofs.Rows.{level-small}
 use Rattle.host.proofs.Frames.{listed-is-tested}
 use Rattle.host.proofs.frame.is_listed_framed.Statement.{statement}
 use Rattle.host.proofs.frame.is_listed_framed.Tie as tie

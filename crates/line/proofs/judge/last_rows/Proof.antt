@@ -47,8 +47,8 @@ returns-3 c = search (needs, preset-parameter)
 returns-4 : tie.Need-returns-4
 returns-4 c = search (needs, preset-asked)
 
-needs-sample-requires : tie.Need-needs-sample-requires
-needs-sample-requires c κs = search needs
+lacks-sample-requires : tie.Need-lacks-sample-requires
+lacks-sample-requires c κs = search needs
 
 returns-5 : tie.Need-returns-5
 returns-5 c = search (needs, no-sample)
@@ -74,6 +74,6 @@ last-rows-spec =
     preset-rule-requires
     returns-3
     returns-4
-    needs-sample-requires
+    lacks-sample-requires
     returns-5
     returns-6)

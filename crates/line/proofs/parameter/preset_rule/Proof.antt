@@ -27,10 +27,7 @@ is-unit-requires : tie.Need-is-unit-requires
 is-unit-requires c κs = search needs
 
 slice-aggregate-read-typed : tie.Need-slice-aggregate-read-typed
-slice-aggregate-read-typed c =
-    let start = c .before .before .before .before .before .before .before in
-    let space = c .before .before .before .before .before .first-at in
-    number-cells (start .args .capacity) (start .args .unit) (start .args .parameter .now) (space .result) (space .ensures)
+slice-aggregate-read-typed c = search (needs, number-cells)
 
 read-typed-requires : tie.Need-read-typed-requires
 read-typed-requires c κs = search needs

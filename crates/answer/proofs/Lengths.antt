@@ -7,12 +7,12 @@ use Prim.Native.Nat.{ℕ, _+_, _≤_}
 use native.Mathlib.Omega.{arith}
 use lib.IntN.{ℤ}
 use lib.ListN.{length, take, drop, length-append}
-use Rattle.weight.specs.Ascii.{digit}
+use Rattle.weight.specs.Characters.{digit}
 use Rattle.text.specs.Ascii.{ascii}
-use Rattle.weight.specs.Field.{fitsField}
+use Rattle.weight.specs.Places.{fitsField}
 use Rattle.text.specs.Field.{fieldOf, fieldIf, blank}
-use Rattle.text.specs.Units.{unitText}
-use Rattle.text.proofs.Width.{field-length}
+use Rattle.text.specs.UnitTexts.{unitText}
+use Rattle.text.proofs.FieldWidth.{field-length}
 use Rattle.answer.specs.declared.answer.Status.{Status}
 use Rattle.answer.specs.declared.answer.Status.the-variants.{A, B, S, D, I, L, Over, Under}
 use Rattle.answer.specs.declared.answer.Head.{Head}
@@ -20,7 +20,7 @@ use Rattle.answer.specs.declared.answer.Number.{Number}
 use Rattle.answer.specs.declared.answer.Error.{Error}
 use Rattle.answer.specs.declared.answer.Error.the-variants.{Syntax, Transmission, Logical}
 use Rattle.answer.specs.declared.answer.Answer.{Answer}
-use Rattle.answer.specs.declared.answer.Answer.the-variants.{Nothing, Plain, Weight, Refused, Text, Listed, CommandList, Versions}
+use Rattle.answer.specs.declared.answer.Answer.the-variants.{Nothing, Plain, Weight, ErrorLine, Text, Listed, CommandList, Versions}
 use Rattle.answer.specs.Commands.{nameOf, levelOf}
 use Rattle.answer.specs.Lines.{lineEnd, quoted, statusText, headText, weightText, listedLine, listedFrom, lineOf}
 use Rattle.answer.proofs.Names.{name-short}
@@ -82,11 +82,11 @@ pub weight-length : (h : Head) (n : Number) (t : List ℕ)
 unfolding lineOf
 weight-length h n t = omega (arith, weight-parts (headText h) (weightText n), head-length h, number-length n)
 
-pub refused-length : (e : Error) (t : List ℕ) → length (lineOf (Refused e) t) ≡ 4
+pub error-length : (e : Error) (t : List ℕ) → length (lineOf (ErrorLine e) t) ≡ 4
 unfolding lineOf
-refused-length Syntax t = refl
-refused-length Transmission t = refl
-refused-length Logical t = refl
+error-length Syntax t = refl
+error-length Transmission t = refl
+error-length Logical t = refl
 
 text-parts : (n t : List ℕ) → length (n ++ ascii " A " ++ quoted t ++ lineEnd) ≡ length n + length t + 7
 text-parts n t =
@@ -128,7 +128,7 @@ unfolding lineOf
 line-limit Nothing t h = omega arith
 line-limit (Plain s) t h = omega (arith, plain-length s t, name-short (s .identification))
 line-limit (Weight s n) t h = omega (arith, weight-length s n t, name-short (s .identification), unit-short (n .unit))
-line-limit (Refused e) t h = omega (arith, refused-length e t)
+line-limit (ErrorLine e) t h = omega (arith, error-length e t)
 line-limit (Text c) t h = omega (arith, text-length c t, name-short c)
 line-limit (Listed last c) t h = omega (arith, listed-length last c t, name-short c)
 line-limit CommandList t h = omega (arith, list-length t)

@@ -102,7 +102,7 @@ unfolding placeIn
 limit-in [] w = zero-le
 limit-in (n ∷ ns) w = limit-by (sameText w n) (placeIn ns w) (length ns) (limit-in ns w)
 
--- a place is at most 18, which is no name's
+-- a place is at most the number of commands, which is no name's
 pub place-limit : (w : List ℕ) → placeOf w ≤ commandCount
 unfolding placeOf
 place-limit w = limit-in names w

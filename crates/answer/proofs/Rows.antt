@@ -35,6 +35,9 @@ use Rattle.answer.specs.Commands.{
   placeT,
   placeTA,
   placeTI,
+  hasText,
+  isI0,
+  isI1,
   isS,
   isSI,
   isSIR,
@@ -253,8 +256,8 @@ of-kind k test e c known is =
     or-left false b e h = absurd (false≢true e)
 
 module _ (c : ℕ) (known : c < commandCount) where
-  pub informing : kindOf c ≡ Informs → leb c placeI5 ≡ true
-  informing = of-kind Informs (λ i. leb i placeI5) refl c known
+  pub informing-is : kindOf c ≡ Informs → (isI0 c || isI1 c || hasText c) ≡ true
+  informing-is = of-kind Informs (λ i. isI0 i || isI1 i || hasText i) refl c known
 
   pub resetting : kindOf c ≡ Resets → isReset c ≡ true
   resetting = of-kind Resets isReset refl c known

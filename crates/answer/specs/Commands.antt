@@ -2,9 +2,9 @@
 -- Assumes nothing.
 use Prim.Native.Nat.{ℕ, suc, _+_, _-_, _*_}
 use Prim.Native.String.{String}
-use mathlib.Core.Bool.{Bool, true, false, cond}
+use mathlib.Core.Bool.{Bool, true, false, cond, _&&_}
 use mathlib.Core.List.{List, [], _∷_, map}
-use lib.Dec.{eqb}
+use lib.Dec.{leb, eqb}
 use lib.ListN.{length, getD}
 use Rattle.answer.specs.declared.command.Kind.{Kind}
 use Rattle.answer.specs.declared.command.Kind.the-variants.{Informs, Weighs, Zeroes, Resets, Shows, Tares, Unknown}
@@ -211,6 +211,10 @@ isTAC c = eqb c placeTAC
 
 abbrev pub isTI : ℕ → Bool
 isTI c = eqb c placeTI
+
+-- I2 to I5, whose answer is a text
+abbrev pub hasText : ℕ → Bool
+hasText c = leb placeI2 c && leb c placeI5
 
 -- ---- how a name is looked for
 

@@ -12,13 +12,16 @@ use Rattle.answer.specs.declared.answer.Number.{Number}
 use Rattle.answer.specs.declared.answer.Error.{Error}
 use Rattle.answer.specs.declared.answer.Error.the-variants.{Syntax, Transmission, Logical}
 use Rattle.answer.specs.declared.answer.Answer.{Answer}
-use Rattle.answer.specs.declared.answer.Answer.the-variants.{Nothing, Plain, Weight, Refused, Text, Listed, CommandList, Versions}
+use Rattle.answer.specs.declared.answer.Answer.the-variants.{Nothing, Plain, Weight, ErrorLine, Text, Listed, CommandList, Versions}
 use Rattle.answer.specs.Commands.{names, nameOf, levelOf}
-use Rattle.weight.specs.Ascii.{digit}
+use Rattle.weight.specs.Characters.{digit}
 use Rattle.text.specs.Ascii.{ascii}
-use Rattle.text.specs.Units.{unitText}
-use Rattle.weight.specs.Field.{fitsField}
+use Rattle.text.specs.UnitTexts.{unitText}
+use Rattle.weight.specs.Places.{fitsField}
 use Rattle.text.specs.Field.{fieldIf}
+
+abbrev pub headOf : ℕ → Status → Head
+headOf c s = record { identification = c; status = s }
 
 -- CR LF
 abbrev pub lineEnd : List ℕ
@@ -66,7 +69,7 @@ unfoldable pub lineOf : Answer → List ℕ → List ℕ
 lineOf Nothing t = []
 lineOf (Plain h) t = headText h ++ lineEnd
 lineOf (Weight h n) t = headText h ++ ascii " " ++ weightText n ++ lineEnd
-lineOf (Refused e) t = errorText e ++ lineEnd
+lineOf (ErrorLine e) t = errorText e ++ lineEnd
 lineOf (Text c) t = nameOf c ++ ascii " A " ++ quoted t ++ lineEnd
 lineOf (Listed last c) t = listedLine last c
 lineOf CommandList t = listedFrom (length names) 0

@@ -1,4 +1,6 @@
 // What an answer line says.
+ghost use mathlib.Core.Path.{_≡_};
+ghost use Rattle.answer.specs.Lines.{headOf};
 use weight::LastPlaces;
 use weight::WeightUnit;
 
@@ -38,7 +40,7 @@ pub enum Answer {
     Nothing,
     Plain(Head),
     Weight(Head, Number),
-    Refused(Error),
+    ErrorLine(Error),
     // A text, which stands beside the answer: I2 to I5.
     Text(u8),
     // One line of I0, with A if it is the last.
@@ -47,4 +49,14 @@ pub enum Answer {
     CommandList,
     // The one line of I1.
     Versions,
+}
+
+// An answer of identification and status alone.
+pub fn plain(command: u8, status: Status) -> Answer
+    ensures { λ r. ⌜ r ≡ Answer.Plain (headOf command status) ⌝ }
+{
+    Answer::Plain(Head {
+        identification: command,
+        status,
+    })
 }

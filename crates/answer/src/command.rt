@@ -3,7 +3,7 @@ ghost use mathlib.Core.Path.{_≡_};
 ghost use mathlib.Core.List.{[], _∷_};
 ghost use Prim.Native.Nat.{_+_, _*_, _≤_};
 ghost use lib.ListN.{length};
-ghost use Rattle.answer.specs.Commands.{nameOf, levelOf, kindOf, takesParameters, needsSample, mayWait, names, placeOf, endsOf, allEnds, placeAmong};
+ghost use Rattle.answer.specs.Commands.{nameOf, levelOf, kindOf, takesParameters, needsSample, mayWait, hasText, names, placeOf, endsOf, allEnds, placeAmong};
 ghost use Rattle.text.specs.Ascii.{sameText};
 ghost use Rattle.text.specs.Short.{shortOf};
 ghost use Rattle.text.specs.declared.short.ShortText.{ShortText};
@@ -167,6 +167,13 @@ pub fn may_wait(command: u8) -> bool
     ensures { λ r. ⌜ r ≡ mayWait command ⌝ }
 {
     (command == S) | (command == Z) | (command == T)
+}
+
+// I2 to I5, whose answer is a text.
+pub fn has_text(command: u8) -> bool
+    ensures { λ r. ⌜ r ≡ hasText command ⌝ }
+{
+    (I2 <= command) & (command <= I5)
 }
 
 // The whole word: one that goes on after the name is another word.

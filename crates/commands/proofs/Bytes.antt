@@ -5,12 +5,12 @@ use mathlib.Core.Path.{_≡_, refl, sym, ap, _∙_}
 use mathlib.Core.Bool.{Bool, true, false}
 use Rattle.answer.specs.declared.answer.Answer.the-variants as answers
 use Rattle.model.specs.declared.profile.Profile.{Profile}
-use Rattle.waiting.specs.declared.react.Reaction.{Reaction}
+use Rattle.model.specs.declared.react.Reaction.{Reaction}
 use Rattle.model.specs.declared.state.State.{State}
 use Rattle.commands.specs.Reactions.{byteReaction, lineReaction, performed, situationOf}
-use Rattle.waiting.specs.Waits.{reaction, withLine}
+use Rattle.model.specs.Groups.{reaction, withLine}
 use Rattle.line.specs.declared.judge.Verdict.{Verdict}
-use Rattle.line.specs.declared.judge.Verdict.the-variants.{Refused, Reset, Busy, Wrong, NoSample, Run, Preset, Show}
+use Rattle.line.specs.declared.judge.Verdict.the-variants.{Erroneous, Reset, Busy, Wrong, NoSample, Run, Preset, Show}
 use Rattle.line.specs.declared.receive.Line.{Line}
 use Rattle.line.specs.declared.receive.Received.{Received}
 use Rattle.line.specs.Judging.{judgement}
@@ -18,7 +18,7 @@ use Rattle.line.specs.Receiving.{clearedLine, receivedByte, withReturn}
 
 -- what an ended line is judged to be, and what becomes of it, do not depend on the mark of its CR
 performed-marked : (p : Profile) (s : State) (l : Line) (v : Verdict) → performed p s (withReturn l false) v ≡ performed p s l v
-performed-marked p s l (Refused e) = refl
+performed-marked p s l (Erroneous e) = refl
 performed-marked p s l Reset = refl
 performed-marked p s l (Busy c) = refl
 performed-marked p s l (Wrong c) = refl

@@ -6,14 +6,14 @@ use borrow.Author.Tests.{le-leb}
 use Rattle.commands.specs.Shown.{showsShort}
 use Rattle.line.specs.declared.judge.Situation.{Situation}
 use Rattle.line.specs.declared.judge.Verdict.{Verdict}
-use Rattle.line.specs.declared.judge.Verdict.the-variants.{Refused, Reset, Busy, Wrong, NoSample, Run, Preset, Show}
+use Rattle.line.specs.declared.judge.Verdict.the-variants.{Erroneous, Reset, Busy, Wrong, NoSample, Run, Preset, Show}
 use Rattle.line.specs.declared.receive.Line.{Line}
 use Rattle.line.specs.Judging.{judgement}
 use Rattle.line.proofs.Verdicts.{show-short}
 
 module _ (j : Situation) (l : Line) where
   short-by : (v : Verdict) → judgement j l ≡ v → showsShort v ≡ true
-  short-by (Refused e) h = refl
+  short-by (Erroneous e) h = refl
   short-by Reset h = refl
   short-by (Busy c) h = refl
   short-by (Wrong c) h = refl

@@ -12,14 +12,16 @@ use Rattle.answer.specs.declared.answer.Answer.the-variants.{Plain}
 use Rattle.answer.specs.declared.answer.Status.{Status}
 use Rattle.answer.specs.declared.answer.Status.the-variants.{A}
 use Rattle.model.specs.declared.profile.Profile.{Profile}
-use Rattle.waiting.specs.declared.react.Reaction.{Reaction}
+use Rattle.model.specs.declared.react.Reaction.{Reaction}
 use Rattle.model.specs.declared.state.Pending.the-variants.{Weigh, Zero, Tare}
 use Rattle.model.specs.declared.state.State.{State}
 use Rattle.weighing.specs.declared.weighing.Measured.{Measured}
 use Rattle.model.specs.declared.weighing.Weighing.{Weighing}
 use Rattle.commands.specs.Reactions.{informed, run, runAs, showing, showingWeight, taring, unanswered, weighing, zeroing}
-use Rattle.waiting.specs.Waits.{begun, measuredReaction, reaction, withRepeating, withWeighing}
-use Rattle.weighing.specs.Weighings.{headOf, stability, tareAnswer, tared, weighed, withTare, zeroed}
+use Rattle.model.specs.Groups.{reaction, withRepeating, withWeighing}
+use Rattle.waiting.specs.Waits.{begun, measuredReaction}
+use Rattle.answer.specs.Lines.{headOf}
+use Rattle.weighing.specs.Weighings.{stability, tareAnswer, tared, weighed, withTare, zeroed}
 
 -- D and DW
 module _ (s : State) (c : ℕ) {r : Reaction} where

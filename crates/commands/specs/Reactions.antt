@@ -4,15 +4,16 @@ use Prim.Native.Nat.{ℕ}
 use mathlib.Core.Bool.{Bool, true, false, cond, _||_}
 use mathlib.Core.List.{_++_}
 use lib.ListN.{take, drop}
-use Rattle.answer.specs.Commands.{kindOf, mayWait, isI0, isI1, isSI, isSIR, isDW, isT, isTA, isTAC, isTI, placeI4, placeS, placeZI, placeD, placeDW, placeTAC, placeTI}
+use Rattle.answer.specs.Commands.{kindOf, mayWait, hasText, isI0, isI1, isSI, isSIR, isDW, isT, isTA, isTAC, isTI, placeI4, placeS, placeZI, placeD, placeDW, placeTAC, placeTI}
 use Rattle.answer.specs.declared.command.Kind.{Kind}
 use Rattle.answer.specs.declared.command.Kind.the-variants.{Informs, Weighs, Zeroes, Resets, Shows, Tares, Unknown}
+use Rattle.answer.specs.declared.answer.Answer.{Answer}
 use Rattle.answer.specs.declared.answer.Answer.the-variants.{Plain, CommandList, Versions}
 use Rattle.answer.specs.declared.answer.Answer.the-variants as answers
 use Rattle.answer.specs.declared.answer.Status.the-variants.{A, I, L}
 use Rattle.line.specs.declared.judge.Situation.{Situation}
 use Rattle.line.specs.declared.judge.Verdict.{Verdict}
-use Rattle.line.specs.declared.judge.Verdict.the-variants.{Refused, Reset, Busy, Wrong, NoSample, Run, Preset, Show}
+use Rattle.line.specs.declared.judge.Verdict.the-variants.{Erroneous, Reset, Busy, Wrong, NoSample, Run, Preset, Show}
 use Rattle.line.specs.declared.receive.Line.{Line}
 use Rattle.line.specs.Judging.{judgement}
 use Rattle.line.specs.Receiving.{clearedLine, receivedByte}
@@ -21,15 +22,20 @@ use Rattle.model.specs.declared.state.Pending.the-variants.{Weigh, Zero, Tare}
 use Rattle.model.specs.declared.state.Display.{Display}
 use Rattle.model.specs.declared.state.State.{State}
 use Rattle.model.specs.States.{isPending}
-use Rattle.waiting.specs.declared.react.Reaction.{Reaction}
-use Rattle.waiting.specs.Waits.{withLine, withWeighing, withRepeating, withDisplay, reaction, chosenReaction, measuredReaction, notWaiting, begun}
-use Rattle.weighing.specs.Weighings.{headOf, stability, weighed, withTare, zeroed, tared, tareAnswer}
+use Rattle.model.specs.declared.react.Reaction.{Reaction}
+use Rattle.model.specs.Groups.{withLine, withWeighing, withRepeating, withDisplay, reaction, chosenReaction, notWaiting}
+use Rattle.waiting.specs.Waits.{measuredReaction, begun}
+use Rattle.answer.specs.Lines.{headOf}
+use Rattle.weighing.specs.Weighings.{stability, weighed, withTare, zeroed, tared, tareAnswer}
 
 -- ---- a command's own rule, by its kind
 
 -- I0 to I5
+abbrev pub informationOf : ℕ → Answer
+informationOf c = cond (isI0 c) CommandList (cond (isI1 c) Versions (cond (hasText c) (answers.Text c) answers.Nothing))
+
 abbrev pub informed : State → ℕ → Reaction
-informed s c = reaction s (cond (isI0 c) CommandList (cond (isI1 c) Versions (answers.Text c)))
+informed s c = reaction s (informationOf c)
 
 -- S waits, SI and SIR take the latest sample; S and SI end a repetition, SIR starts one
 unfoldable pub weighing : Profile → State → ℕ → Reaction
@@ -102,7 +108,7 @@ textShown d l n =
 
 -- s is the state with its line cleared, l the finished line
 abbrev pub performed : Profile → State → Line → Verdict → Reaction
-performed p s l (Refused e) = reaction s (answers.Refused e)
+performed p s l (Erroneous e) = reaction s (answers.ErrorLine e)
 performed p s l Reset = reaction (resetState s) (answers.Text placeI4)
 performed p s l (Busy c) = reaction s (Plain (headOf (identificationOf c) I))
 performed p s l (Wrong c) = reaction s (Plain (headOf c L))

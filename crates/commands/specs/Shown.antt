@@ -3,11 +3,11 @@
 use mathlib.Core.Bool.{Bool, true}
 use lib.Dec.{leb}
 use Rattle.line.specs.declared.judge.Verdict.{Verdict}
-use Rattle.line.specs.declared.judge.Verdict.the-variants.{Refused, Reset, Busy, Wrong, NoSample, Run, Preset, Show}
+use Rattle.line.specs.declared.judge.Verdict.the-variants.{Erroneous, Reset, Busy, Wrong, NoSample, Run, Preset, Show}
 
 -- a text that is to be shown has at most 20 bytes
 abbrev pub showsShort : Verdict → Bool
-showsShort (Refused e) = true
+showsShort (Erroneous e) = true
 showsShort Reset = true
 showsShort (Busy c) = true
 showsShort (Wrong c) = true

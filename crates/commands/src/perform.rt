@@ -7,7 +7,8 @@ ghost use lib.ListN.{length, drop};
 ghost use Rattle.answer.specs.Commands.{placeD};
 ghost use Rattle.commands.specs.Shown.{showsShort};
 ghost use Rattle.commands.specs.Reactions as meaning;
-ghost use Rattle.waiting.specs.Waits as waits;
+ghost use Rattle.model.specs.Groups as groups;
+ghost use Rattle.answer.specs.Lines as lines;
 ghost use Rattle.weighing.specs.Weighings as weights;
 use crate::run::run;
 use crate::run::weight_shown;
@@ -18,6 +19,7 @@ use answer::S;
 use answer::SI;
 use answer::SIR;
 use answer::Status;
+use answer::plain;
 use line::Line;
 use line::Situation;
 use line::Verdict;
@@ -25,16 +27,15 @@ use line::cleared;
 use line::judge_line;
 use model::Display;
 use model::Profile;
+use model::Reaction;
 use model::State;
 use model::Text20;
+use model::answered;
 use model::is_pending;
-use waiting::Reaction;
-use waiting::answered;
+use model::with_display;
+use model::with_line;
+use model::with_weighing;
 use waiting::not_waiting;
-use waiting::with_display;
-use waiting::with_line;
-use waiting::with_weighing;
-use weighing::plain;
 use weighing::tare_answer;
 use weighing::with_tare;
 use weight::NO_TARE;
@@ -53,7 +54,7 @@ fn identification_of(command: u8) -> u8
 
 // I: a command is waiting, or there is no sample yet.
 fn not_possible(state: State, command: u8) -> Reaction
-    ensures { λ r. ⌜ r ≡ waits.reaction state (Answer.Plain (weights.headOf (meaning.identificationOf command) Status.I)) ⌝ }
+    ensures { λ r. ⌜ r ≡ groups.reaction state (Answer.Plain (lines.headOf (meaning.identificationOf command) Status.I)) ⌝ }
 {
     answered(state, plain(identification_of(command), Status::I))
 }
@@ -107,7 +108,7 @@ fn text_shown(display: Display, line: Line, len: u8) -> Display
 // D with a text.
 fn show_text(state: State, line: Line, len: u8) -> Reaction
     requires { ⌜ len ≤ 20 ⌝ }
-    ensures { λ r. ⌜ r ≡ waits.reaction (waits.withDisplay state (meaning.textShown (state .display) line len)) (Answer.Plain (weights.headOf placeD Status.A)) ⌝ }
+    ensures { λ r. ⌜ r ≡ groups.reaction (groups.withDisplay state (meaning.textShown (state .display) line len)) (Answer.Plain (lines.headOf placeD Status.A)) ⌝ }
 {
     let display = state.display;
     answered(
@@ -118,7 +119,7 @@ fn show_text(state: State, line: Line, len: u8) -> Reaction
 
 // TA with a number.
 fn preset(profile: Profile, state: State, tare: Tare) -> Reaction
-    ensures { λ r. ⌜ r ≡ waits.reaction (waits.withWeighing state (weights.withTare (state .weighing) (tare .0))) (weights.tareAnswer profile (tare .0)) ⌝ }
+    ensures { λ r. ⌜ r ≡ groups.reaction (groups.withWeighing state (weights.withTare (state .weighing) (tare .0))) (weights.tareAnswer profile (tare .0)) ⌝ }
 {
     let weighing = state.weighing;
     answered(
@@ -133,7 +134,7 @@ fn performed(profile: Profile, state: State, line: Line, verdict: Verdict) -> Re
     ensures { λ r. ⌜ r ≡ meaning.performed profile state line verdict ⌝ }
 {
     match verdict {
-        Verdict::Refused(error) => answered(state, Answer::Refused(error)),
+        Verdict::Erroneous(error) => answered(state, Answer::ErrorLine(error)),
         Verdict::Reset => answered(reset_state(state), Answer::Text(I4)),
         Verdict::Busy(command) => not_possible(state, command),
         Verdict::Wrong(command) => answered(state, plain(command, Status::L)),

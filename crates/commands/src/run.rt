@@ -1,7 +1,5 @@
 // A command's own rule, by its kind.
 ghost use mathlib.Core.Path.{_≡_};
-ghost use mathlib.Core.Bool.{cond};
-ghost use Rattle.answer.specs.Commands.{isI0, isI1};
 ghost use Rattle.commands.specs.Reactions as meaning;
 use answer::Answer;
 use answer::DW;
@@ -15,20 +13,21 @@ use answer::TA;
 use answer::TAC;
 use answer::TI;
 use answer::ZI;
+use answer::has_text;
 use answer::kind_of;
 use answer::may_wait;
+use answer::plain;
 use model::Display;
 use model::Pending;
 use model::Profile;
+use model::Reaction;
 use model::State;
-use waiting::Reaction;
-use waiting::answered;
+use model::answered;
+use model::with_display;
+use model::with_repeating;
+use model::with_weighing;
 use waiting::begun;
 use waiting::measured_reaction;
-use waiting::with_display;
-use waiting::with_repeating;
-use waiting::with_weighing;
-use weighing::plain;
 use weighing::stability;
 use weighing::tare_answer;
 use weighing::tared;
@@ -38,7 +37,7 @@ use weighing::zeroed;
 use weight::NO_TARE;
 
 fn information(command: u8) -> Answer
-    ensures { λ r. ⌜ r ≡ cond (isI0 command) Answer.CommandList (cond (isI1 command) Answer.Versions (Answer.Text command)) ⌝ }
+    ensures { λ r. ⌜ r ≡ meaning.informationOf command ⌝ }
 {
     if command == I0 {
         return Answer::CommandList;
@@ -46,7 +45,10 @@ fn information(command: u8) -> Answer
     if command == I1 {
         return Answer::Versions;
     }
-    Answer::Text(command)
+    if has_text(command) {
+        return Answer::Text(command);
+    }
+    Answer::Nothing
 }
 
 // I0 to I5.

@@ -86,7 +86,7 @@ fn weight(head: Head, number: Number) {
     end();
 }
 
-fn identity(command: u8, bytes: &[u8]) {
+fn information(command: u8, bytes: &[u8]) {
     text(b"text ");
     name(command);
     space();
@@ -117,8 +117,8 @@ fn tell_answer(answer: Answer, bytes: &[u8], line: &[u8]) {
         Answer::Nothing => other(line),
         Answer::Plain(_) => other(line),
         Answer::Weight(head, number) => weight(head, number),
-        Answer::Refused(_) => other(line),
-        Answer::Text(command) => identity(command, bytes),
+        Answer::ErrorLine(_) => other(line),
+        Answer::Text(command) => information(command, bytes),
         Answer::Listed(last, command) => listed(last, command),
         Answer::CommandList => other(line),
         Answer::Versions => other(line),

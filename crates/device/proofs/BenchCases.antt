@@ -13,7 +13,7 @@ use Rattle.model.specs.declared.profile.Profile.{Profile}
 use Rattle.model.specs.declared.weighing.Weighing.{Weighing}
 use Rattle.profiles.specs.ProfileA.{profileWith}
 use Rattle.text.specs.Ascii.{ascii}
-use Rattle.weight.specs.Field.{lastDigits, digitsIn, digitsOf, decimalOf, numberText, widthOf, fitsField}
+use Rattle.weight.specs.Places.{lastDigits, digitsIn, digitsOf, decimalOf, numberText, widthOf, fitsField}
 use Rattle.text.specs.Field.{fieldOf}
 use Rattle.weight.specs.Printing.{printable, printedNumber}
 use Rattle.weight.specs.Rounding.{allowedResolution, halfUp, roundAway, stepsOf, placesOf}

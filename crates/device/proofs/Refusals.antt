@@ -11,9 +11,10 @@ use Rattle.answer.specs.declared.answer.Answer.the-variants.{Nothing, Text}
 use Rattle.answer.specs.Lines.{lineOf}
 use Rattle.emit.specs.declared.emit.Emitted.{Emitted}
 use Rattle.emit.specs.Rooms.{fitsRoom, emitted, laidIn}
-use Rattle.waiting.specs.declared.react.Reaction.{Reaction}
+use Rattle.model.specs.declared.react.Reaction.{Reaction}
 use Rattle.commands.specs.Reactions.{byteReaction, lineReaction}
-use Rattle.waiting.specs.Waits.{sampleReaction, isAwaited, reaction, sampledState, withLine}
+use Rattle.model.specs.Groups.{reaction, withLine}
+use Rattle.waiting.specs.Waits.{sampleReaction, isAwaited, sampledState}
 use Rattle.commands.proofs.Bytes.{byte-ends, byte-joins}
 use Rattle.waiting.proofs.Samples.{sample-unanswered}
 use Rattle.device.specs.declared.call.Called.{Called}

@@ -5,35 +5,37 @@ use mathlib.Core.Path.{_≡_}
 use mathlib.Core.Bool.{Bool, true, false}
 use mathlib.Core.List.{List}
 use lib.ListN.{length}
+use Rattle.answer.specs.Commands.{placeI4}
 use Rattle.answer.specs.declared.answer.Answer.{Answer}
-use Rattle.answer.specs.declared.answer.Answer.the-variants.{Nothing, Plain, Weight, Refused, Text, Listed, CommandList, Versions}
+use Rattle.answer.specs.declared.answer.Answer.the-variants.{Nothing, Plain, Weight, ErrorLine, Text, Listed, CommandList, Versions}
 use Rattle.answer.specs.Lines.{lineOf}
 use Rattle.emit.specs.Rooms.{fitsRoom, laidIn}
 use Rattle.device.specs.declared.call.Called.{Called}
 use Rattle.model.specs.declared.profile.Profile.{Profile}
-use Rattle.waiting.specs.declared.react.Reaction.{Reaction}
+use Rattle.model.specs.declared.react.Reaction.{Reaction}
 use Rattle.model.specs.declared.state.State.{State}
 use Rattle.weight.specs.declared.loads.Load.{Load}
-use Rattle.model.specs.Profiles.{profileAllowed, identityText}
+use Rattle.model.specs.Profiles.{profileAllowed, informationText}
 use Rattle.model.specs.Refusals.{numberOfRefusal}
 use Rattle.model.specs.States.{stateAllowed, startState}
 use Rattle.commands.specs.Reactions.{byteReaction}
-use Rattle.waiting.specs.Waits.{sampleReaction, reaction}
+use Rattle.model.specs.Groups.{reaction}
+use Rattle.waiting.specs.Waits.{sampleReaction}
 
 -- the command whose text goes with an answer; 0, which has none, for every other
-abbrev pub identityIn : Answer → ℕ
-identityIn Nothing = 0
-identityIn (Plain h) = 0
-identityIn (Weight h n) = 0
-identityIn (Refused e) = 0
-identityIn (Text c) = c
-identityIn (Listed last c) = 0
-identityIn CommandList = 0
-identityIn Versions = 0
+abbrev pub textCommand : Answer → ℕ
+textCommand Nothing = 0
+textCommand (Plain h) = 0
+textCommand (Weight h n) = 0
+textCommand (ErrorLine e) = 0
+textCommand (Text c) = c
+textCommand (Listed last c) = 0
+textCommand CommandList = 0
+textCommand Versions = 0
 
 -- the text that goes with an answer
 abbrev pub answerText : Profile → Answer → List ℕ
-answerText p a = identityText p (identityIn a)
+answerText p a = informationText p (textCommand a)
 
 -- the bytes of an answer
 unfoldable pub answerBytes : Profile → Answer → List ℕ
@@ -72,7 +74,7 @@ ofState p s room next = chosenOutcome (stateAllowed p s) next (refused 2 s room)
 
 -- power-on sends the I4 line; it reads no earlier state
 unfoldable pub powerOnOutcome : Profile → State → List ℕ → Outcome
-powerOnOutcome p s room = ofProfile p s room (delivered p s (reaction startState (Text 4)) room)
+powerOnOutcome p s room = ofProfile p s room (delivered p s (reaction startState (Text placeI4)) room)
 
 unfoldable pub byteOutcome : Profile → State → ℕ → Bool → List ℕ → Outcome
 byteOutcome p s b bad room = ofProfile p s room (ofState p s room (delivered p s (byteReaction p s b bad) room))

@@ -5,7 +5,7 @@ ghost use Prim.Native.Nat.{_≤_};
 ghost use lib.ListN.{length, take};
 ghost use Rattle.answer.specs.Lines.{lineOf};
 ghost use Rattle.emit.specs.Rooms.{emitted, laidIn};
-ghost use Rattle.device.specs.Calls.{identityIn, answerBytes};
+ghost use Rattle.device.specs.Calls.{textCommand, answerBytes};
 ghost use Rattle.model.specs.Profiles.{profileAllowed};
 use answer::Answer;
 use emit::Emitted;
@@ -13,14 +13,14 @@ use emit::emit_answer;
 use model::Profile;
 
 // The command whose text goes with an answer, and 0 for every other.
-fn identity_in(answer: Answer) -> u8
-    ensures { λ r. ⌜ r ≡ identityIn answer ⌝ }
+fn text_command(answer: Answer) -> u8
+    ensures { λ r. ⌜ r ≡ textCommand answer ⌝ }
 {
     match answer {
         Answer::Nothing => 0,
         Answer::Plain(_) => 0,
         Answer::Weight(_, _) => 0,
-        Answer::Refused(_) => 0,
+        Answer::ErrorLine(_) => 0,
         Answer::Text(command) => command,
         Answer::Listed(_, _) => 0,
         Answer::CommandList => 0,
@@ -44,7 +44,7 @@ pub fn emit_due(profile: Profile, answer: Answer, out: &mut [u8]) -> Emitted
     ensures { λ r. ⌜ r ≡ emitted (answerBytes profile answer) (now (out .entry)) ⌝ }
     ensures { λ r. ⌜ now (out .exit) ≡ laidIn (answerBytes profile answer) (now (out .entry)) ⌝ }
 {
-    let command = identity_in(answer);
+    let command = text_command(answer);
     if command == answer::I2 {
         let text = profile.model;
         let cells = text.bytes;
@@ -61,7 +61,7 @@ pub fn emit_due(profile: Profile, answer: Answer, out: &mut [u8]) -> Emitted
         return emit_with(answer, &cells, text.len, out);
     }
     if command == answer::I5 {
-        let text = profile.identity;
+        let text = profile.release;
         let cells = text.bytes;
         return emit_with(answer, &cells, text.len, out);
     }

@@ -10,17 +10,17 @@ use answer::Answer;
 use commands::line_reaction;
 use line::receive_byte;
 use model::Profile;
+use model::Reaction;
 use model::Refusal;
 use model::State;
+use model::answered;
 use model::is_profile_allowed;
 use model::is_state_allowed;
 use model::start_state;
-use waiting::Reaction;
-use waiting::answered;
+use model::with_line;
 use waiting::is_awaited;
 use waiting::sample_reaction;
 use waiting::sampled;
-use waiting::with_line;
 use weight::Load;
 
 pub struct Called {

@@ -4,15 +4,15 @@ use mathlib.Core.Path.{_≡_, ap, _∙_}
 use mathlib.Core.List.{List, [], _∷_, _++_, append-assoc}
 use mathlib.Core.Bool.{Bool, cond}
 use Prim.Native.Nat.{ℕ, _+_}
-use Rattle.weight.specs.Ascii.{digit}
+use Rattle.weight.specs.Characters.{digit}
 use Rattle.text.specs.Ascii.{ascii}
 use Rattle.answer.specs.declared.answer.Head.{Head}
 use Rattle.answer.specs.Commands.{nameOf, levelOf}
 use Rattle.answer.specs.Lines.{lineEnd, quoted, statusText, headText, weightText, listedLine}
 use Rattle.text.specs.declared.field.Field.{Field}
-use Rattle.weight.specs.Field.{fitsField}
+use Rattle.weight.specs.Places.{fitsField}
 use Rattle.text.specs.Field.{fieldIf}
-use Rattle.text.specs.Units.{unitText}
+use Rattle.text.specs.UnitTexts.{unitText}
 use Rattle.text.specs.declared.short.ShortText.{ShortText}
 use Rattle.text.specs.Short.{shortOf, textOf}
 use Rattle.text.proofs.Cells.{cells-text}

@@ -10,7 +10,7 @@ ghost use Rattle.answer.specs.Lines.{lineEnd, quoted, statusText, headText, wei
 ghost use Rattle.emit.specs.Rooms.{emitted, laidIn};
 ghost use Rattle.text.specs.Ascii.{ascii};
 ghost use Rattle.text.specs.Short.{textOf};
-ghost use Rattle.text.specs.Units.{unitText};
+ghost use Rattle.text.specs.UnitTexts.{unitText};
 use answer::Answer;
 use answer::Error;
 use answer::Head;
@@ -27,8 +27,6 @@ use text::ShortText;
 use text::field_of;
 use text::unit_text;
 use weight::WeightUnit;
-
-const ZERO: u8 = 48;
 
 // Whether the line had room, and its length; 0 where it had none.
 pub struct Emitted {
@@ -168,7 +166,7 @@ fn put_listed(out: &mut [u8], at: usize, last: bool, command: u8) -> usize
     ensures { λ r. ⌜ r ≡ at + length (listedLine last command) ⌝ }
     ensures { λ r. ⌜ now (out .exit) ≡ sets (now (out .entry)) at (listedLine last command) ⌝ }
 {
-    let level = ZERO + level_of(command);
+    let level = b'0' + level_of(command);
     let front = [
         b'I',
         b'0',
@@ -217,7 +215,7 @@ fn line_length(answer: Answer, text: &[u8]) -> usize
             let unit = number.unit;
             name_length(head.identification) + unit_length(unit) + 16
         }
-        Answer::Refused(_) => 4,
+        Answer::ErrorLine(_) => 4,
         Answer::Text(command) => name_length(command) + text.len() + 7,
         Answer::Listed(_, command) => name_length(command) + LISTED_LENGTH,
         Answer::CommandList => LIST_LENGTH,
@@ -234,7 +232,7 @@ fn put_answer(out: &mut [u8], answer: Answer, text: &[u8]) -> usize
         Answer::Nothing => 0,
         Answer::Plain(head) => put_plain(out, 0, head),
         Answer::Weight(head, number) => put_weight(out, 0, head, number),
-        Answer::Refused(error) => put_error(out, 0, error),
+        Answer::ErrorLine(error) => put_error(out, 0, error),
         Answer::Text(command) => put_text(out, 0, command, text),
         Answer::Listed(last, command) => put_listed(out, 0, last, command),
         Answer::CommandList => put_list(out, 0),

@@ -9,10 +9,10 @@ use native.Mathlib.Omega.{arith}
 use borrow.Author.Tests.{eqb-true, leb-true, ltb-true}
 use lib.Dec.{eqb, leb, ltb, lit≤, lit<}
 use lib.ListN.{length}
-use Rattle.answer.specs.Commands.{nameOf, commandCount, isD, isDW, isReset, isS, isSI, isSIR, isT, isTA, isTAC, isTI, isZ, isZI, placeD, placeDW, placeS, placeT, placeTA, placeTAC, placeTI, placeZ, placeZI}
+use Rattle.answer.specs.Commands.{nameOf, commandCount, isD, isDW, isReset, isS, isSI, isSIR, isT, isTA, isTAC, isTI, isZ, isZI, placeD, placeDW, placeS, placeT, placeTA, placeTAC, placeTI, placeZ, placeZI, placeI2, placeI5, hasText}
 use Rattle.answer.specs.declared.answer.Status.{Status}
 use Rattle.answer.specs.declared.answer.Status.the-variants.{A, B, S, D, I, L, Over, Under}
-use Rattle.forms.specs.Forms.{isIdentification, isIdentity, plainForm, weightForm}
+use Rattle.forms.specs.Forms.{isIdentification, plainForm, weightForm}
 use Rattle.weight.proofs.Allowed.{both-left, both-right, either-holds}
 
 -- ---- a place that is one of some
@@ -21,7 +21,7 @@ use Rattle.weight.proofs.Allowed.{both-left, both-right, either-holds}
 either : {P : Type 0} (a b : Bool) → (a ≡ true → P) → (b ≡ true → P) → a || b ≡ true → P
 either a b p q e = ⊎-elim p q (either-holds a b e)
 
--- a known place is one of the 18
+-- a place that one of the table's is
 known : (c k : ℕ) → k < commandCount → eqb c k ≡ true → c < commandCount
 known c k h e = let s = eqb-true c k e in omega arith
 
@@ -70,8 +70,8 @@ weight-place c Under e = let z : _≡_ {A = ℕ} 0 1 = cc in absurd (omega arith
 
 -- ---- I2 to I5
 
-pub identity-place : (c : ℕ) → isIdentity c ≡ true → (2 ≤ c) × (c ≤ 5)
-identity-place c e = (leb-true 2 c (both-left (leb 2 c) (leb c 5) e), leb-true c 5 (both-right (leb 2 c) (leb c 5) e))
+pub text-place : (c : ℕ) → hasText c ≡ true → (placeI2 ≤ c) × (c ≤ placeI5)
+text-place c e = (leb-true placeI2 c (both-left (leb placeI2 c) (leb c placeI5) e), leb-true c placeI5 (both-right (leb placeI2 c) (leb c placeI5) e))
 
 -- the test f passes at each number below n
 abbrev below : (ℕ → Bool) → ℕ → Bool
@@ -84,8 +84,8 @@ below-at f (suc n) t c h =
     ⊎-elim (λ e. rw e (both-left (f n) (below f n) t)) (λ l. below-at f n (both-right (f n) (below f n) t) c l) (eq-or-lt-of-le (le-of-suc-le-suc h))
 
 -- their names have two characters
-pub identity-width : (c : ℕ) → isIdentity c ≡ true → length (nameOf c) ≡ 2
-identity-width c e =
-    let p = identity-place c e in
-    let two = below-at (λ k. not (isIdentity k) || eqb (length (nameOf k)) 2) 6 refl c (omega arith) in
+pub text-width : (c : ℕ) → hasText c ≡ true → length (nameOf c) ≡ 2
+text-width c e =
+    let p = text-place c e in
+    let two = below-at (λ k. not (hasText k) || eqb (length (nameOf k)) 2) 6 refl c (omega arith) in
     eqb-true (length (nameOf c)) 2 (rw e at two)

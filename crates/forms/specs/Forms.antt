@@ -6,14 +6,14 @@ use mathlib.Core.List.{List}
 use lib.Dec.{leb, ltb, eqb}
 use lib.ListN.{length}
 use lib.Signed.{nonNeg}
-use Rattle.answer.specs.Commands.{names, isD, isDW, isReset, isS, isSI, isSIR, isT, isTA, isTAC, isTI, isZ, isZI}
+use Rattle.answer.specs.Commands.{names, isD, isDW, isReset, isS, isSI, isSIR, isT, isTA, isTAC, isTI, isZ, isZI, placeI3, hasText}
 use Rattle.answer.specs.declared.answer.Answer.{Answer}
-use Rattle.answer.specs.declared.answer.Answer.the-variants.{Nothing, Plain, Weight, Refused, Text, Listed, CommandList, Versions}
+use Rattle.answer.specs.declared.answer.Answer.the-variants.{Nothing, Plain, Weight, ErrorLine, Text, Listed, CommandList, Versions}
 use Rattle.answer.specs.declared.answer.Number.{Number}
 use Rattle.answer.specs.declared.answer.Status.{Status}
 use Rattle.answer.specs.declared.answer.Status.the-variants.{A, B, S, D, I, L, Over, Under}
-use Rattle.line.specs.Judging.{isPrintable}
-use Rattle.weight.specs.Field.{fitsField}
+use Rattle.text.specs.Printable.{isPrintable}
+use Rattle.weight.specs.Places.{fitsField}
 
 -- the identification of some command: for SI and SIR it is S
 abbrev pub isIdentification : ℕ → Bool
@@ -51,12 +51,9 @@ numberForm c n = fitsField (n .decimals) (n .places .0) && (isS c || nonNeg (n .
 
 -- ---- texts
 
-abbrev pub isIdentity : ℕ → Bool
-isIdentity c = leb 2 c && leb c 5
-
 -- I2 and I3 0 to 40 characters, I4 and I5 0 to 20: bytes 32 to 255 without 34
 abbrev pub textForm : ℕ → List ℕ → Bool
-textForm c t = isIdentity c && (leb (length t) 20 || (leb c 3 && leb (length t) 40)) && isPrintable t
+textForm c t = hasText c && (leb (length t) 20 || (leb c placeI3 && leb (length t) 40)) && isPrintable t
 
 -- ---- one line; t is the text of I2 to I5, and is empty beside every other answer
 
@@ -67,8 +64,12 @@ abbrev pub canForm : Answer → List ℕ → Bool
 canForm Nothing t = false
 canForm (Plain h) t = plainForm (h .identification) (h .status) && noText t
 canForm (Weight h n) t = weightForm (h .identification) (h .status) && numberForm (h .identification) n && noText t
-canForm (Refused e) t = noText t
+canForm (ErrorLine e) t = noText t
 canForm (Text c) t = textForm c t
 canForm (Listed last c) t = ltb c (length names) && noText t
 canForm CommandList t = false
 canForm Versions t = noText t
+
+-- the longest of these lines: I2 with a text of 40 bytes
+abbrev pub longestLine : ℕ
+longestLine = 49

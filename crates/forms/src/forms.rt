@@ -7,9 +7,7 @@ use answer::Answer;
 use answer::D;
 use answer::DW;
 use answer::Head;
-use answer::I2;
 use answer::I3;
-use answer::I5;
 use answer::NONE;
 use answer::Number;
 use answer::RESET;
@@ -23,7 +21,8 @@ use answer::TAC;
 use answer::TI;
 use answer::Z;
 use answer::ZI;
-use line::is_printable;
+use answer::has_text;
+use text::is_printable;
 use weight::fits;
 use weight::is_below_zero;
 
@@ -86,9 +85,8 @@ fn number_form(command: u8, number: Number) -> bool
 fn text_form(command: u8, text: &[u8]) -> bool
     ensures { λ r. ⌜ r ≡ textForm command (now (text .entry)) ⌝ }
 {
-    let identity = (I2 <= command) & (command <= I5);
     let short = (text.len() <= SHORT_TEXT) | ((command <= I3) & (text.len() <= LONG_TEXT));
-    if identity & short {
+    if has_text(command) & short {
         return is_printable(text);
     }
     false
@@ -105,7 +103,7 @@ pub fn can_form(answer: Answer, text: &[u8]) -> bool
         Answer::Weight(head, number) => {
             weight_form(head) & number_form(head.identification, number) & alone
         }
-        Answer::Refused(_) => alone,
+        Answer::ErrorLine(_) => alone,
         Answer::Text(command) => text_form(command, text),
         Answer::Listed(_, command) => (command < NONE) & alone,
         Answer::CommandList => false,

@@ -13,7 +13,7 @@ use Rattle.history.specs.Claim.{Calls, OverCalls, done, byteCall, sample
 use Rattle.model.specs.Profiles.{profileAllowed}
 use Rattle.model.specs.States.{startState}
 use Rattle.history.specs.Tally.{Event}
-use Rattle.history.proofs.WaitsDelivered.{Started, started}
+use Rattle.history.proofs.Delivering.{Started, started}
 
 -- A call's event is followed from x: what is kept holds again of the state after it, and a list of events that is accepted from
 -- there is accepted from x with the event before it.

@@ -8,17 +8,16 @@ use mathlib.Core.List.{List, _++_}
 use native.Mathlib.Omega.{arith}
 use borrow.Author.Tests.{leb-true, not-true}
 use lib.Dec.{leb}
-use Rattle.answer.specs.declared.answer.Answer.the-variants.{Nothing, Plain, Weight, Refused, Text, CommandList, Versions}
+use Rattle.answer.specs.declared.answer.Answer.the-variants.{Nothing, Plain, Weight, ErrorLine, Text, CommandList, Versions}
 use Rattle.answer.specs.declared.answer.Error.{Error}
 use Rattle.answer.specs.declared.answer.Error.the-variants.{Syntax, Transmission, Logical}
 use Rattle.answer.specs.declared.answer.Number.{Number}
 use Rattle.answer.specs.declared.answer.Status.{Status}
 use Rattle.answer.specs.declared.answer.Status.the-variants.{A, S, D, I, L, Over, Under}
-use Rattle.answer.specs.Commands.{names, placeD, placeDW, placeS, placeT, placeTA, placeTAC, placeTI, placeZ, placeZI}
+use Rattle.answer.specs.Commands.{names, placeD, placeDW, placeS, placeT, placeTA, placeTAC, placeTI, placeZ, placeZI, placeI5}
 use Rattle.answer.proofs.Names.{at-name}
-use Rattle.answer.specs.Lines.{lineEnd, statusText, headText, listedLine, listedFrom, lineOf}
+use Rattle.answer.specs.Lines.{lineEnd, statusText, headText, listedLine, listedFrom, lineOf, headOf}
 use Rattle.model.specs.declared.profile.Profile.{Profile}
-use Rattle.weighing.specs.Weighings.{headOf}
 use Rattle.device.specs.Calls.{answerBytes}
 use Rattle.text.specs.Ascii.{ascii}
 use Rattle.history.specs.Tally.{grantsZero, grantsTare, grantsClear, tellsTare, tellsNet, tellsLimit}
@@ -108,11 +107,11 @@ module _ (p : Profile) where
   nothing-silent = computed _
 
   -- ES, ET, EL
-  pub refused-silent : (e : Error) → Silent (answerBytes p (Refused e))
+  pub error-silent : (e : Error) → Silent (answerBytes p (ErrorLine e))
   unfolding answerBytes lineOf
-  refused-silent Syntax = computed _
-  refused-silent Transmission = computed _
-  refused-silent Logical = computed _
+  error-silent Syntax = computed _
+  error-silent Transmission = computed _
+  error-silent Logical = computed _
 
   -- I0
   pub list-silent : Silent (answerBytes p CommandList)
@@ -159,7 +158,7 @@ module _ (p : Profile) where
   under-denied c = denied-is _ (at-name (isDenied Under) names c refl)
 
   -- I2 to I5, and I0 and I1 with them
-  pub text-silent : (c : ℕ) → leb c 5 ≡ true → Silent (answerBytes p (Text c))
+  pub text-silent : (c : ℕ) → leb c placeI5 ≡ true → Silent (answerBytes p (Text c))
   unfolding answerBytes lineOf
   text-silent zero e = computed _
   text-silent (suc zero) e = computed _

@@ -14,7 +14,8 @@ use Rattle.answer.specs.declared.answer.Status.the-variants.{A}
 use Rattle.model.specs.declared.profile.Profile.{Profile}
 use Rattle.model.specs.declared.weighing.Weighing.{Weighing}
 use Rattle.weighing.proofs.Reach.{between}
-use Rattle.weighing.specs.Weighings.{headOf, stability, grossOf, netOf, numberOf, inLimits, chosenWeighing, weighed, zeroed, tared, withZero, withTare, tareAnswer}
+use Rattle.answer.specs.Lines.{headOf}
+use Rattle.weighing.specs.Weighings.{stability, grossOf, netOf, numberOf, inLimits, chosenWeighing, weighed, zeroed, tared, withZero, withTare, tareAnswer}
 use Rattle.device.specs.Calls.{answerBytes}
 use Rattle.model.specs.Profiles.{profileAllowed}
 use Rattle.text.specs.Ascii.{ascii, sameText}
@@ -28,7 +29,7 @@ use Rattle.history.proofs.AnswerKinds.{Denied, Silent, Zeroes, Tares, W
 use Rattle.history.proofs.DueWeights.{net-printable, gross-printable, tare-printable}
 use Rattle.history.proofs.Following.{Follows, is-loaded, latest-is, gross-is, net-near, tare-near}
 use Rattle.history.proofs.Tallying.{after-denied, after-zeroes, after-tares, after-clears, after-typed, after-told, after-weighs, silent-holds, denied-holds, zeroes-holds, clears-holds, weighs-holds, tares-holds, told-holds, typed-holds}
-use Rattle.history.proofs.WaitsAnswer.{in-limits}
+use Rattle.history.proofs.SentAnswers.{in-limits}
 use Rattle.history.proofs.WeightLines.{Shows, weighed-shows, told-shows}
 
 -- the tally accepts the answer l to the input i, and follows the weighing w after it

@@ -3,16 +3,16 @@
 use Prim.Native.Nat.{ℕ, zero, suc, _<_, _≤_}
 use native.Mathlib.Omega.{arith}
 use mathlib.Core.Path.{_≡_, refl, sym, _∙_}
-use mathlib.Core.Bool.{Bool, true, false, cond, _&&_, _||_, or-true, true≢false, false≢true}
+use mathlib.Core.Bool.{Bool, true, false, cond, _&&_, _||_, or-true, false≢true}
 use mathlib.Core.List.{List}
 use borrow.Author.Tests.{le-leb, leb-true, lt-ltb, ne-eqb}
-use lib.Dec.{leb, eqb}
+use lib.Dec.{leb}
 use lib.IntN.{ℤ, pos, negsuc, negℤ}
 use lib.ListN.{length}
 use lib.Signed.{ltZ, nonNeg}
 use Rattle.answer.proofs.Rows.{parameters-are}
-use Rattle.answer.specs.Commands.{commandCount, isSI, isSIR, placeD, placeDW, placeReset, placeS, placeT, placeTA, placeTAC, placeTI, placeZ, placeZI, isI0, isI1}
-use Rattle.answer.specs.declared.answer.Answer.the-variants.{Plain, Weight, CommandList, Versions}
+use Rattle.answer.specs.Commands.{commandCount, isSI, isSIR, placeD, placeDW, placeReset, placeS, placeT, placeTA, placeTAC, placeTI, placeZ, placeZI, placeI3, placeI4, placeI5, hasText, placeI2}
+use Rattle.answer.specs.declared.answer.Answer.the-variants.{Plain, Weight}
 use Rattle.answer.specs.declared.answer.Answer.the-variants as answers
 use Rattle.answer.specs.declared.answer.Status.{Status}
 use Rattle.answer.specs.declared.answer.Status.the-variants.{A, S, D, I, L, Over, Under}
@@ -20,7 +20,7 @@ use Rattle.forms.specs.Forms.{plainForm, textForm}
 use Rattle.model.specs.declared.profile.Profile.{Profile}
 use Rattle.model.specs.declared.profile.Text20.{Text20}
 use Rattle.model.specs.declared.profile.Text40.{Text40}
-use Rattle.waiting.specs.declared.react.Reaction.{Reaction}
+use Rattle.model.specs.declared.react.Reaction.{Reaction}
 use Rattle.model.specs.declared.state.Pending.{Pending}
 use Rattle.model.specs.declared.state.Pending.the-variants.{Nothing, Weigh, Zero, Tare}
 use Rattle.model.specs.declared.state.State.{State}
@@ -28,22 +28,25 @@ use Rattle.weight.specs.declared.loads.Load.{Load}
 use Rattle.model.specs.declared.weighing.Weighing.{Weighing}
 use Rattle.model.specs.Profiles.{profileAllowed, textOf20, textOf40, textAllowed20, textAllowed40}
 use Rattle.commands.specs.Reactions.{weighing, zeroing, run, identificationOf, performed, byteReaction, situationOf}
-use Rattle.waiting.specs.Waits.{withLine, withRepeating, placeOfPending, settled, begun, sampleReaction}
+use Rattle.model.specs.Groups.{withLine, withRepeating}
+use Rattle.waiting.specs.Waits.{placeOfPending, settled, begun, sampleReaction}
 use Rattle.weighing.proofs.Reach.{not-negative}
-use Rattle.weighing.specs.Weighings.{headOf, stability, grossOf, netOf, numberOf, weighed, withSample, zeroed, tared, tareAnswer}
+use Rattle.answer.specs.Lines.{headOf}
+use Rattle.weighing.specs.Weighings.{stability, grossOf, netOf, numberOf, weighed, withSample, zeroed, tared, tareAnswer}
 use Rattle.model.proofs.ProfileFacts.{AllowedProfile, allowed-profile, text-short}
 use Rattle.history.proofs.AnswerKinds.{Tests, weighed-weighs, tared-tares, tared-now-tares, told-tells}
 use Rattle.history.proofs.DueWeights.{net-printable, gross-printable, tare-printable}
-use Rattle.history.proofs.HostReads.{ReadByHost, nothing-read, list-read, plain-read, refused-read, versions-read, text-read, weight-read}
-use Rattle.history.proofs.WaitsAnswer.{in-limits}
+use Rattle.history.proofs.HostReads.{ReadByHost, nothing-read, list-read, plain-read, error-read, versions-read, text-read, weight-read}
+use Rattle.history.proofs.SentAnswers.{in-limits}
 use Rattle.history.proofs.Ways.{Ruled, by-choice, run-cases, sample-cases}
 use Rattle.history.proofs.Verdicts.{verdict-proper, verdict-ruled}
 use Rattle.history.proofs.WeightLines.{weighed-shows, tared-shows, tared-now-shows, told-shows}
 use Rattle.history.specs.Tally.{isWeightAnswer, tellsNet, grantsTare}
 use Rattle.line.specs.declared.judge.Verdict.{Verdict}
-use Rattle.line.specs.declared.judge.Verdict.the-variants.{Refused, Reset, Busy, Wrong, NoSample, Run, Preset, Show}
+use Rattle.line.specs.declared.judge.Verdict.the-variants.{Erroneous, Reset, Busy, Wrong, NoSample, Run, Preset, Show}
 use Rattle.line.specs.declared.receive.Line.{Line}
-use Rattle.line.specs.Judging.{isPrintable, judgement}
+use Rattle.text.specs.Printable.{isPrintable}
+use Rattle.line.specs.Judging.{judgement}
 use Rattle.line.specs.Receiving.{clearedLine, receivedByte}
 use Rattle.line.specs.Unbounded.{Marked, finishedLine, judgementOf}
 use Rattle.line.proofs.Kept.{Holds, Keeps, ends-alike, holds-finished, holds-judged}
@@ -56,11 +59,11 @@ use Rattle.weight.proofs.Allowed.{both-right}
 -- ---- the texts of I2 to I5
 
 -- a text that its line may carry
-form20 : (c : ℕ) (t : Text20) → (leb 2 c && leb c 5) ≡ true → textAllowed20 t ≡ true → textForm c (textOf20 t) ≡ true
+form20 : (c : ℕ) (t : Text20) → hasText c ≡ true → textAllowed20 t ≡ true → textForm c (textOf20 t) ≡ true
 form20 c t place e =
     rw (place, le-leb (length (textOf20 t)) 20 (text-short 20 (t .len) (t .bytes) e), both-right (leb (t .len) 20) (isPrintable (textOf20 t)) e)
 
-form40 : (c : ℕ) (t : Text40) → (leb 2 c && leb c 5) ≡ true → leb c 3 ≡ true → textAllowed40 t ≡ true → textForm c (textOf40 t) ≡ true
+form40 : (c : ℕ) (t : Text40) → hasText c ≡ true → leb c placeI3 ≡ true → textAllowed40 t ≡ true → textForm c (textOf40 t) ≡ true
 form40 c t place first e =
     rw (
       place,
@@ -75,25 +78,18 @@ module _ (p : Profile) (allowed : profileAllowed p ≡ true) where
   facts = allowed-profile p allowed
 
   -- I2 to I5, whose texts the profile allows
-  identity-read : (c : ℕ) → eqb c 0 ≡ false → eqb c 1 ≡ false → leb c 5 ≡ true → ReadByHost p (answers.Text c)
-  identity-read zero e f h = absurd (true≢false e)
-  identity-read (suc zero) e f h = absurd (true≢false f)
-  identity-read (suc (suc zero)) e f h = text-read p 2 (form40 2 (p .model) refl refl (facts .model))
-  identity-read (suc (suc (suc zero))) e f h = text-read p 3 (form40 3 (p .software) refl refl (facts .software))
-  identity-read (suc (suc (suc (suc zero)))) e f h = text-read p 4 (form20 4 (p .serial) refl (facts .serial))
-  identity-read (suc (suc (suc (suc (suc zero))))) e f h = text-read p 5 (form20 5 (p .identity) refl (facts .identity))
-  identity-read (suc (suc (suc (suc (suc (suc c)))))) e f h = absurd (omega (arith, leb-true (suc (suc (suc (suc (suc (suc c)))))) 5 h))
+  information-read : (c : ℕ) → hasText c ≡ true → ReadByHost p (answers.Text c)
+  information-read zero h = absurd (false≢true h)
+  information-read (suc zero) h = absurd (false≢true h)
+  information-read (suc (suc zero)) h = text-read p 2 (form40 2 (p .model) refl refl (facts .model))
+  information-read (suc (suc (suc zero))) h = text-read p 3 (form40 3 (p .software) refl refl (facts .software))
+  information-read (suc (suc (suc (suc zero)))) h = text-read p 4 (form20 4 (p .serial) refl (facts .serial))
+  information-read (suc (suc (suc (suc (suc zero))))) h = text-read p 5 (form20 5 (p .release) refl (facts .release))
+  information-read (suc (suc (suc (suc (suc (suc c)))))) h = absurd (omega (arith, leb-true (suc (suc (suc (suc (suc (suc c)))))) placeI5 (both-right (leb placeI2 (suc (suc (suc (suc (suc (suc c))))))) (leb (suc (suc (suc (suc (suc (suc c)))))) placeI5) h)))
 
   -- I4, which power-on and @ send
-  pub serial-read : ReadByHost p (answers.Text 4)
-  serial-read = identity-read 4 refl refl refl
-
-  -- I0 to I5
-  informed-by : (c : ℕ) (first second : Bool) → eqb c 0 ≡ first → eqb c 1 ≡ second → leb c 5 ≡ true
-      → ReadByHost p (cond first CommandList (cond second Versions (answers.Text c)))
-  informed-by c true second e f h = list-read p
-  informed-by c false true e f h = versions-read p
-  informed-by c false false e f h = identity-read c e f h
+  pub serial-read : ReadByHost p (answers.Text placeI4)
+  serial-read = information-read placeI4 refl
 
 -- ---- weights
 
@@ -207,7 +203,9 @@ module _ (p : Profile) (allowed : profileAllowed p ≡ true) (s : State) (range 
   run-read : Ruled c → ReadIn p (run p s c)
   run-read ruled =
       run-cases (ReadIn p) p s c ruled
-      (λ few. informed-by p allowed c (isI0 c) (isI1 c) refl refl few)
+      (list-read p)
+      (versions-read p)
+      (λ text. information-read p allowed c text)
       (λ is. begun-read p allowed (withRepeating s false) range Weigh)
       (λ needs. weighed-read p allowed (s .weighing) range)
       (λ is. begun-read p allowed s range Zero)
@@ -222,7 +220,7 @@ module _ (p : Profile) (allowed : profileAllowed p ≡ true) (s : State) (range 
 
 -- what is known of the command that a verdict names, and of a typed tare
 abbrev Named : Profile → Verdict → Type 0
-Named p (Refused e) = Unit
+Named p (Erroneous e) = Unit
 Named p Reset = Unit
 Named p (Busy c) = plainForm (identificationOf c) I ≡ true
 Named p (Wrong c) = plainForm c L ≡ true
@@ -245,7 +243,7 @@ verdict-named
     : (p : Profile) (s : State) (f : List Marked) (l : Line) → Holds l f → (v : Verdict)
     → judgementOf (situationOf p s) f ≡ v
     → Named p v
-verdict-named p s f l held (Refused e) h = tt
+verdict-named p s f l held (Erroneous e) h = tt
 verdict-named p s f l held Reset h = tt
 verdict-named p s f l held (Busy c) h =
     let k = busy-line (situationOf p s) f h .0 in
@@ -262,7 +260,7 @@ verdict-named p s f l held (Show n) h = tt
 module _ (p : Profile) (allowed : profileAllowed p ≡ true) (s : State) (range : s .weighing .tare .0 ≤ p .capacity) where
   -- what each verdict answers
   performed-read : (l : Line) (v : Verdict) → Named p v → ReadIn p (performed p s l v)
-  performed-read l (Refused e) named = refused-read p e
+  performed-read l (Erroneous e) named = error-read p e
   performed-read l Reset named = serial-read p allowed
   performed-read l (Busy c) named = plain-read p (identificationOf c) I named
   performed-read l (Wrong c) named = plain-read p c L named

@@ -6,10 +6,11 @@ use mathlib.Core.Path.{_≡_, refl}
 use mathlib.Core.Bool.{true, _&&_}
 use mathlib.Core.List.{List}
 use lib.ListN.{take}
+use Rattle.answer.specs.Commands.{placeI4}
 use Rattle.answer.specs.declared.answer.Answer.the-variants.{Text}
 use Rattle.device.specs.declared.call.Called.{Called}
 use Rattle.model.specs.declared.profile.Profile.{Profile}
-use Rattle.waiting.specs.declared.react.Reaction.{Reaction}
+use Rattle.model.specs.declared.react.Reaction.{Reaction}
 use Rattle.model.specs.declared.state.State.{State}
 use Rattle.model.specs.Refusals.{numberOfRefusal}
 use Rattle.device.specs.Calls.{answerBytes}
@@ -25,7 +26,7 @@ use Rattle.history.proofs.AnswersRead.{serial-read, byte-read, sample-r
 use Rattle.history.proofs.DueWeights.{tare-range}
 use Rattle.history.proofs.HostReads.{ReadByHost}
 use Rattle.history.proofs.Stepping.{FollowsState, start-followed, Stepped, byte-stepped, sample-stepped}
-use Rattle.history.proofs.WaitsDelivered.{Started, started, Delivered, given, withheld, byte-delivered, sample-delivered}
+use Rattle.history.proofs.Delivering.{Started, started, Delivered, given, withheld, byte-delivered, sample-delivered}
 use Rattle.line.proofs.Kept.{markedAs}
 use Rattle.weight.proofs.Allowed.{both-right}
 
@@ -77,10 +78,10 @@ step p profile =
 -- ---- the whole list
 
 -- power-on's line: I4 and its text
-on-read : (p : Profile) → profileAllowed p ≡ true → piecesHold p startTally (piecesOf (answerBytes p (Text 4))) ≡ true
+on-read : (p : Profile) → profileAllowed p ≡ true → piecesHold p startTally (piecesOf (answerBytes p (Text placeI4))) ≡ true
 unfolding weightHolds
 on-read p allowed =
-    let k = text-silent p 4 refl in
+    let k = text-silent p placeI4 refl in
     serial-read p allowed startTally (rw (k .net-is, k .tare-is, k .told-is))
 
 calls-read : OverCalls (λ p sent es. hostAccepts p startTally es ≡ true)

@@ -10,15 +10,15 @@ use lib.Dec.{leb, eqb}
 use lib.IntN.{ℤ, natAbs, _-ℤ_}
 use lib.Signed.{nonNeg}
 use Rattle.answer.specs.Commands.{commandCount, isS}
-use Rattle.answer.specs.Lines.{listedLine, listedFrom, lineOf}
+use Rattle.answer.specs.Lines.{listedLine, listedFrom, lineOf, headOf}
 use Rattle.answer.specs.declared.answer.Answer.{Answer}
-use Rattle.answer.specs.declared.answer.Answer.the-variants.{Nothing, Plain, Weight, Refused, Text, Listed, CommandList, Versions}
+use Rattle.answer.specs.declared.answer.Answer.the-variants.{Nothing, Plain, Weight, ErrorLine, Text, Listed, CommandList, Versions}
 use Rattle.answer.specs.declared.answer.Error.{Error}
 use Rattle.answer.specs.declared.answer.Status.{Status}
 use Rattle.forms.specs.Forms.{plainForm, weightForm, canForm}
 use Rattle.model.specs.declared.profile.Profile.{Profile}
 use Rattle.device.specs.Calls.{answerText, answerBytes}
-use Rattle.weighing.specs.Weighings.{headOf, numberOf}
+use Rattle.weighing.specs.Weighings.{numberOf}
 use Rattle.history.specs.EndToEnd.{piecesAfter, piecesOf, valueAllowance, valueHolds, piecesHold}
 use Rattle.history.specs.Tally.{Tally, isWeightAnswer, numberFemtograms, exactWeight, allowance, weightHolds}
 use Rattle.history.proofs.Pieces.{listed-first, formed-piece}
@@ -26,7 +26,7 @@ use Rattle.history.proofs.WeightLines.{Shows, places-printed, field-fit
 use Rattle.host.proofs.Inverse.{read-written}
 use Rattle.weight.specs.Printing.{printable}
 use Rattle.weight.specs.Rounding.{placesOf}
-use Rattle.text.specs.Units.{unitText}
+use Rattle.text.specs.UnitTexts.{unitText}
 use Rattle.text.proofs.Named.{same-self}
 
 -- each piece of the answer is read, and what is read of a weight that the tally takes is near enough
@@ -96,8 +96,8 @@ pub plain-read : (p : Profile) (c : ℕ) (s : Status) → plainForm c s ≡ true
 plain-read p c s form = formed-read p (Plain (headOf c s)) (rw form) (λ t holds. refl)
 
 -- ES, ET, EL
-pub refused-read : (p : Profile) (e : Error) → ReadByHost p (Refused e)
-refused-read p e = formed-read p (Refused e) refl (λ t holds. refl)
+pub error-read : (p : Profile) (e : Error) → ReadByHost p (ErrorLine e)
+error-read p e = formed-read p (ErrorLine e) refl (λ t holds. refl)
 
 -- I1
 pub versions-read : (p : Profile) → ReadByHost p Versions

@@ -2,23 +2,23 @@ pub mod Along
 pub mod AnswerKinds
 mod Answering
 mod AnswersRead
+mod Delivering
 pub mod Demand3
 mod DueWeights
 pub mod EndToEnd
 mod Following
 mod HostReads
+mod Performing
 mod Pieces
 mod Reacting
 pub mod Rejected
+mod SentAnswers
+mod StaysAllowed
 mod Stepping
 mod Tallying
 mod TypedLines
 mod Verdicts
-mod WaitsAllowed
-mod WaitsAnswer
-mod WaitsDelivered
 pub mod WaitsEnd
-mod WaitsPerformed
 mod WaitsStep
 mod Ways
 mod WeightLines

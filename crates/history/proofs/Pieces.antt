@@ -9,25 +9,25 @@ use borrow.Author.Tests.{ne-eqb, leb-true, not-true}
 use lib.Dec.{leb, ltb, eqb}
 use lib.IntN.{ℤ, pos, negsuc}
 use lib.ListN.{length, replicate}
-use Rattle.answer.specs.Commands.{names, nameOf, levelOf}
+use Rattle.answer.specs.Commands.{names, nameOf, levelOf, hasText}
 use Rattle.answer.specs.Lines.{lineEnd, quoted, statusText, headText, weightText, errorText, listedLine, lineOf}
 use Rattle.answer.specs.declared.answer.Answer.{Answer}
-use Rattle.answer.specs.declared.answer.Answer.the-variants.{Nothing, Plain, Weight, Refused, Text, Listed, CommandList, Versions}
+use Rattle.answer.specs.declared.answer.Answer.the-variants.{Nothing, Plain, Weight, ErrorLine, Text, Listed, CommandList, Versions}
 use Rattle.answer.specs.declared.answer.Error.{Error}
 use Rattle.answer.specs.declared.answer.Error.the-variants.{Syntax, Transmission, Logical}
 use Rattle.answer.specs.declared.answer.Head.{Head}
 use Rattle.answer.specs.declared.answer.Number.{Number}
 use Rattle.answer.specs.declared.answer.Status.{Status}
 use Rattle.answer.specs.declared.answer.Status.the-variants.{A, B, S, D, I, L, Over, Under}
-use Rattle.forms.specs.Forms.{isIdentity, canForm}
+use Rattle.forms.specs.Forms.{canForm}
 use Rattle.history.specs.EndToEnd.{piecesAfter, piecesOf}
 use Rattle.answer.proofs.Names.{at-name}
-use Rattle.line.specs.Judging.{isPrintable}
-use Rattle.weight.specs.Ascii.{digit, space}
+use Rattle.text.specs.Printable.{isPrintable}
+use Rattle.weight.specs.Characters.{digit, space}
 use Rattle.text.specs.Ascii.{ascii}
-use Rattle.weight.specs.Field.{lastDigits, digitsIn, digitsOf, decimalOf, numberText, widthOf, fitsField}
+use Rattle.weight.specs.Places.{lastDigits, digitsIn, digitsOf, decimalOf, numberText, widthOf, fitsField}
 use Rattle.text.specs.Field.{fieldOf, blank}
-use Rattle.text.specs.Units.{unitText}
+use Rattle.text.specs.UnitTexts.{unitText}
 use Rattle.weight.specs.declared.units.WeightUnit.{WeightUnit}
 use Rattle.weight.specs.declared.units.WeightUnit.the-variants.{G, Mg, Ct, Oz, Ozt, Gn, Dwt}
 use Rattle.weight.proofs.Allowed.{both-hold, both-left, both-right}
@@ -210,7 +210,7 @@ listed-first last c r = first-piece (listedBody last c) r (listed-unbroken last 
 
 -- a text of I2 to I5 is one that may be shown
 form-printable : (c : ℕ) (t : List ℕ) → canForm (Text c) t ≡ true → isPrintable t ≡ true
-form-printable c t e = both-right (isIdentity c && (leb (length t) 20 || (leb c 3 && leb (length t) 40))) (isPrintable t) e
+form-printable c t e = both-right (hasText c && (leb (length t) 20 || (leb c 3 && leb (length t) 40))) (isPrintable t) e
 
 -- the line of an answer that can be formed is one piece
 pub formed-piece : (a : Answer) (t : List ℕ) → canForm a t ≡ true → piecesOf (lineOf a t) ≡ lineOf a t ∷ []
@@ -220,7 +220,7 @@ formed-piece (Plain h) t e = one-piece (headText h) (head-unbroken h)
 formed-piece (Weight h n) t e =
     one-piece (headText h ++ ascii " " ++ weightText n)
     (joined (headText h ++ ascii " ") (weightText n) (joined (headText h) (ascii " ") (head-unbroken h) refl) (weight-unbroken n))
-formed-piece (Refused e) t form = one-piece (errorText e) (error-unbroken e)
+formed-piece (ErrorLine e) t form = one-piece (errorText e) (error-unbroken e)
 formed-piece (Text c) t e =
     one-piece (nameOf c ++ ascii " A " ++ quoted t)
     (joined (nameOf c ++ ascii " A ") (quoted t)

@@ -2,16 +2,15 @@
 -- Assumes nothing.
 use Prim.Native.Nat.{ℕ, _≤_}
 use mathlib.Core.Path.{_≡_, refl}
-use mathlib.Core.Bool.{Bool, true, false, cond, _&&_}
+use mathlib.Core.Bool.{Bool, true, false, _&&_}
 use mathlib.Core.List.{List}
 use lib.Dec.{leb}
 use lib.IntN.{pos}
-use Rattle.answer.specs.declared.answer.Answer.the-variants.{CommandList, Versions}
 use Rattle.answer.specs.declared.answer.Answer.the-variants as answers
 use Rattle.answer.specs.declared.answer.Status.the-variants.{A}
-use Rattle.answer.specs.Commands.{nameOf, needsSample, placeT, placeTI, placeZ, placeZI, isI0, isI1, placeI4, placeI5}
+use Rattle.answer.specs.Commands.{nameOf, needsSample, placeT, placeTI, placeZ, placeZI, placeI4, placeI5, placeI2}
 use Rattle.model.specs.declared.profile.Profile.{Profile}
-use Rattle.waiting.specs.declared.react.Reaction.{Reaction}
+use Rattle.model.specs.declared.react.Reaction.{Reaction}
 use Rattle.model.specs.declared.state.Pending.{Pending}
 use Rattle.model.specs.declared.state.Pending.the-variants.{Nothing, Weigh, Zero, Tare}
 use Rattle.model.specs.declared.state.State.{State}
@@ -20,15 +19,17 @@ use Rattle.model.specs.declared.weighing.Weighing.{Weighing}
 use Rattle.device.specs.Calls.{answerBytes}
 use Rattle.model.specs.Profiles.{profileAllowed}
 use Rattle.commands.specs.Reactions.{weighing, run, identificationOf, resetState, performed, situationOf}
-use Rattle.waiting.specs.Waits.{withWaiting, withRepeating, reaction, chosenReaction, measuredReaction, settled, begun, placeOfPending, sampleReaction}
+use Rattle.model.specs.Groups.{withWaiting, withRepeating, reaction, chosenReaction}
+use Rattle.waiting.specs.Waits.{measuredReaction, settled, begun, placeOfPending, sampleReaction}
 use Rattle.weighing.specs.Weighings.{stability, grossOf, numberOf, withSample}
 use Rattle.line.specs.declared.judge.Verdict.{Verdict}
-use Rattle.line.specs.declared.judge.Verdict.the-variants.{Refused, Reset, Busy, Wrong, NoSample, Run, Preset, Show}
+use Rattle.line.specs.declared.judge.Verdict.the-variants.{Erroneous, Reset, Busy, Wrong, NoSample, Run, Preset, Show}
 use Rattle.line.specs.declared.receive.Line.{Line}
 use Rattle.line.specs.Unbounded.{Marked, endsUnbounded, finishedLine}
+use Rattle.weight.proofs.Allowed.{both-right}
 use Rattle.weight.proofs.Nearness.{near-refl}
 use Rattle.history.specs.Tally.{Tally, Input, byteIs, sampleIs, taken, ends, endedText, isResetLine, afterReset, withTareOf}
-use Rattle.history.proofs.AnswerKinds.{Silent, nothing-silent, refused-silent, list-silent, versions-silent, shown-silent, weight-shown-silent, unready-silent, wrong-silent, text-silent, zeroed-zeroes, zeroed-now-zeroes, tared-tares, tared-now-tares}
+use Rattle.history.proofs.AnswerKinds.{Silent, nothing-silent, error-silent, list-silent, versions-silent, shown-silent, weight-shown-silent, unready-silent, wrong-silent, text-silent, zeroed-zeroes, zeroed-now-zeroes, tared-tares, tared-now-tares}
 use Rattle.history.proofs.Answering.{Answered, answered-silent, answered-quietly, answered-zeroed, answered-cleared, answered-weighed, answered-tared, answered-told, answered-typed, zero-exact}
 use Rattle.history.proofs.Following.{Follows}
 use Rattle.history.proofs.Verdicts.{Says}
@@ -96,20 +97,13 @@ module _
         (c : ℕ)
         (sample : needsSample c ≡ true → s .weighing .sampled ≡ true)
       where
-        -- I0 to I5
-        informed-by
-            : (first second : Bool)
-            → leb c placeI5 ≡ true
-            → Reacted p t i (reaction s (cond first CommandList (cond second Versions (answers.Text c))))
-        informed-by true second h = answered-quietly p t i (s .weighing) not-reset f _ (list-silent p)
-        informed-by false true h = answered-quietly p t i (s .weighing) not-reset f _ (versions-silent p)
-        informed-by false false h = answered-quietly p t i (s .weighing) not-reset f _ (text-silent p c h)
-
         -- a command that is run, whose line is its name alone
         run-reacted : Ruled c → ends t i ≡ true → endedText t i ≡ nameOf c → Reacted p t i (run p s c)
         run-reacted ruled end text =
             run-cases (Reacted p t i) p s c ruled
-            (λ few. informed-by (isI0 c) (isI1 c) few)
+            (answered-quietly p t i (s .weighing) not-reset f _ (list-silent p))
+            (answered-quietly p t i (s .weighing) not-reset f _ (versions-silent p))
+            (λ text. answered-quietly p t i (s .weighing) not-reset f _ (text-silent p c (both-right (leb placeI2 c) (leb c placeI5) text)))
             (λ is. begun-reacted (withRepeating s false) f range Weigh)
             (λ needs. answered-weighed p t i (s .weighing) not-reset f allowed range (sample needs))
             (λ is. begun-reacted s f range Zero)
@@ -161,7 +155,7 @@ module _
         : (l : Line) (v : Verdict)
         → Says (situationOf p s) (finishedLine (t .line)) v
         → Reacted p t (byteIs m) (performed p s l v)
-    performed-reacted l (Refused e) says = answered-quietly p t (byteIs m) (s .weighing) (no-reset says) byte-followed _ (refused-silent p e)
+    performed-reacted l (Erroneous e) says = answered-quietly p t (byteIs m) (s .weighing) (no-reset says) byte-followed _ (error-silent p e)
     performed-reacted l Reset says = answered-silent p t (byteIs m) _ _ (reset-followed says) (text-silent p placeI4 refl)
     performed-reacted l (Busy c) says = answered-quietly p t (byteIs m) (s .weighing) (no-reset says) byte-followed _ (unready-silent p (identificationOf c))
     performed-reacted l (Wrong c) says = answered-quietly p t (byteIs m) (s .weighing) (no-reset says) byte-followed _ (wrong-silent p c)

@@ -7,10 +7,10 @@ use Rattle.answer.specs.Lines.{headText, weightText, lineOf}
 use Rattle.host.specs.Reads.{guessed, confirms, readLine}
 use Rattle.text.specs.Field.{fieldOf}
 use Rattle.text.specs.Reading.{isDecimal, decimalsIn, valueIn, isWritten, readNumber, readField}
-use Rattle.text.specs.Units.{firstNamed, unitNamed}
-use Rattle.weight.specs.Field.{lastDigits, digitsIn, digitsOf, decimalOf, numberText, widthOf, fitsField}
+use Rattle.text.specs.UnitTexts.{firstNamed, unitNamed}
+use Rattle.weight.specs.Places.{lastDigits, digitsIn, digitsOf, decimalOf, numberText, widthOf, fitsField}
 use Rattle.weight.specs.Rounding.{placeFemtograms, stepFemtograms, exactFemtograms}
-use Rattle.weight.specs.Typed.{typedFemtograms}
+use Rattle.weight.specs.Amounts.{typedFemtograms}
 use Rattle.history.specs.EndToEnd.{piecesAfter, piecesOf, piecesHold, hostAccepts}
 use Rattle.history.specs.Rejected.{weightRows, stateRows, waitRows, rows, allTell}
 use Rattle.history.specs.Tally.{afterReset, granted, weightHolds, loadHolds, typedHolds, tallied, holds, afterEvent, eventHolds, accepts}

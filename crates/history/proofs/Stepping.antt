@@ -9,14 +9,15 @@ use lib.ListN.{take}
 use Rattle.answer.specs.declared.answer.Answer.the-variants.{Nothing}
 use Rattle.device.specs.declared.call.Called.{Called}
 use Rattle.model.specs.declared.profile.Profile.{Profile}
-use Rattle.waiting.specs.declared.react.Reaction.{Reaction}
+use Rattle.model.specs.declared.react.Reaction.{Reaction}
 use Rattle.model.specs.declared.state.State.{State}
 use Rattle.weight.specs.declared.loads.Load.{Load}
 use Rattle.model.specs.Refusals.{numberOfRefusal}
 use Rattle.device.specs.Calls.{answerBytes, ByteCalled, SampleCalled}
 use Rattle.model.specs.Profiles.{profileAllowed}
 use Rattle.commands.specs.Reactions.{performed, byteReaction, situationOf}
-use Rattle.waiting.specs.Waits.{withLine, chosenReaction, reaction, sampleReaction}
+use Rattle.model.specs.Groups.{withLine, chosenReaction, reaction}
+use Rattle.waiting.specs.Waits.{sampleReaction}
 use Rattle.model.specs.States.{stateAllowed, startState}
 use Rattle.line.specs.declared.receive.Line.{Line}
 use Rattle.line.specs.Receiving.{clearedLine, receivedByte}
@@ -33,9 +34,9 @@ use Rattle.history.proofs.Following.{Follows}
 use Rattle.history.proofs.Reacting.{Reacted, performed-reacted, byte-answered, sample-reacted}
 use Rattle.history.proofs.Tallying.{tallied-line}
 use Rattle.history.proofs.Verdicts.{verdict-says, verdict-ruled}
-use Rattle.history.proofs.WaitsAllowed.{byte-allowed, sample-allowed}
-use Rattle.history.proofs.WaitsDelivered.{Delivered, given, withheld, byte-delivered, sample-delivered}
-use Rattle.history.proofs.WaitsPerformed.{same-line, performed-kind}
+use Rattle.history.proofs.StaysAllowed.{byte-allowed, sample-allowed}
+use Rattle.history.proofs.Delivering.{Delivered, given, withheld, byte-delivered, sample-delivered}
+use Rattle.history.proofs.Performing.{same-line, performed-kind}
 use Rattle.history.proofs.Ways.{sample-cases}
 
 -- the tally follows an allowed state: its line and its weighing

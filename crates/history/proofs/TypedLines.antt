@@ -9,11 +9,11 @@ use lib.Dec.{leb}
 use lib.IntN.{pos}
 use lib.ListN.{length}
 use Rattle.weight.specs.declared.units.WeightUnit.{WeightUnit}
-use Rattle.weight.specs.declared.typed.Tare.{Tare}
-use Rattle.weight.specs.declared.typed.Typed.the-variants.{Amount, TooLarge, NotTyped}
+use Rattle.weight.specs.declared.amount.Tare.{Tare}
+use Rattle.weight.specs.declared.amount.Typed.the-variants.{Amount, TooLarge, NotTyped}
 use Rattle.text.specs.Reading.{isDecimal, decimalsIn, valueIn}
 use Rattle.weight.specs.Rounding.{exactFemtograms, Near}
-use Rattle.weight.specs.Typed.{typedMicrograms, typedFemtograms, largestCapacity, amountOf}
+use Rattle.weight.specs.Amounts.{typedMicrograms, typedFemtograms, largestCapacity, amountOf}
 use Rattle.text.specs.Typed.{isTyped, readTyped}
 use Rattle.weight.proofs.Allowed.{both-right}
 use Rattle.text.proofs.DecimalText.{decimals-limit}

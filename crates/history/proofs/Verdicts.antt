@@ -8,12 +8,12 @@ use borrow.Author.Tests.{not-true}
 use Rattle.answer.specs.Commands.{nameOf, needsSample}
 use Rattle.line.specs.declared.judge.Situation.{Situation}
 use Rattle.line.specs.declared.judge.Verdict.{Verdict}
-use Rattle.line.specs.declared.judge.Verdict.the-variants.{Refused, Reset, Busy, Wrong, NoSample, Run, Preset, Show}
+use Rattle.line.specs.declared.judge.Verdict.the-variants.{Erroneous, Reset, Busy, Wrong, NoSample, Run, Preset, Show}
 use Rattle.line.specs.declared.receive.Line.{Line}
 use Rattle.line.specs.Unbounded.{Marked, byteIn, anyFaulty, judgementOf}
 use Rattle.line.proofs.Kept.{Holds}
 use Rattle.line.proofs.Verdicts.{GoodLine, Shown, reset-line, reset-judged, run-line, preset-line, show-line, show-cells}
-use Rattle.weight.specs.declared.typed.Tare.{Tare}
+use Rattle.weight.specs.declared.amount.Tare.{Tare}
 use Rattle.text.specs.Ascii.{ascii, sameText}
 use Rattle.weight.proofs.Allowed.{both-left, both-right}
 use Rattle.text.proofs.Named.{same-is}
@@ -24,7 +24,7 @@ use Rattle.history.proofs.Ways.{Ruled}
 -- ---- @
 
 abbrev pub resets : Verdict → Bool
-resets (Refused e) = false
+resets (Erroneous e) = false
 resets Reset = true
 resets (Busy c) = false
 resets (Wrong c) = false
@@ -34,7 +34,7 @@ resets (Preset m) = false
 resets (Show n) = false
 
 resets-is : (v : Verdict) → resets v ≡ true → v ≡ Reset
-resets-is (Refused e) h = absurd (false≢true h)
+resets-is (Erroneous e) h = absurd (false≢true h)
 resets-is Reset h = refl
 resets-is (Busy c) h = absurd (false≢true h)
 resets-is (Wrong c) h = absurd (false≢true h)
@@ -88,7 +88,7 @@ pub record PresetSays (j : Situation) (f : List Marked) (m : Tare) : Type 0 wher
   pub typed : TypedAs (j .capacity) (j .resolution .unit) (typedText (map byteIn f)) (m .0)
 
 abbrev pub Says : Situation → List Marked → Verdict → Type 0
-Says j f (Refused e) = isResetLine f ≡ false
+Says j f (Erroneous e) = isResetLine f ≡ false
 Says j f Reset = isResetLine f ≡ true
 Says j f (Busy c) = isResetLine f ≡ false
 Says j f (Wrong c) = isResetLine f ≡ false
@@ -108,7 +108,7 @@ module _ (j : Situation) (f : List Marked) where
   by-verdict h = sym (reset-test j f) ∙ ap resets h
 
   pub verdict-says : (v : Verdict) → judgementOf j f ≡ v → Says j f v
-  verdict-says (Refused e) h = by-verdict h
+  verdict-says (Erroneous e) h = by-verdict h
   verdict-says Reset h = by-verdict h
   verdict-says (Busy c) h = by-verdict h
   verdict-says (Wrong c) h = by-verdict h
@@ -136,7 +136,7 @@ module _ (j : Situation) (f : List Marked) where
 -- ---- what a verdict on l promises: a command runs that may, a preset lies in 0..C, and a shown text is one that D takes
 
 abbrev pub Proper : Situation → Line → Verdict → Type 0
-Proper j l (Refused e) = Unit
+Proper j l (Erroneous e) = Unit
 Proper j l Reset = Unit
 Proper j l (Busy c) = Unit
 Proper j l (Wrong c) = Unit
@@ -147,7 +147,7 @@ Proper j l (Show n) = Shown l n
 
 module _ (j : Situation) (f : List Marked) (l : Line) (held : Holds l f) where
   pub verdict-proper : (v : Verdict) → judgementOf j f ≡ v → Proper j l v
-  verdict-proper (Refused e) h = tt
+  verdict-proper (Erroneous e) h = tt
   verdict-proper Reset h = tt
   verdict-proper (Busy c) h = tt
   verdict-proper (Wrong c) h = tt
@@ -158,7 +158,7 @@ module _ (j : Situation) (f : List Marked) (l : Line) (held : Holds l f) where
 
 -- a command that is run has a rule
 abbrev pub RuledBy : Verdict → Type 0
-RuledBy (Refused e) = Unit
+RuledBy (Erroneous e) = Unit
 RuledBy Reset = Unit
 RuledBy (Busy c) = Unit
 RuledBy (Wrong c) = Unit
@@ -168,7 +168,7 @@ RuledBy (Preset m) = Unit
 RuledBy (Show n) = Unit
 
 pub verdict-ruled : (j : Situation) (f : List Marked) (v : Verdict) → judgementOf j f ≡ v → RuledBy v
-verdict-ruled j f (Refused e) h = tt
+verdict-ruled j f (Erroneous e) h = tt
 verdict-ruled j f Reset h = tt
 verdict-ruled j f (Busy c) h = tt
 verdict-ruled j f (Wrong c) h = tt

@@ -8,13 +8,14 @@ use Prim.Native.Nat.{ℕ}
 use lib.ListN.{take}
 use Rattle.device.specs.declared.call.Called.{Called}
 use Rattle.model.specs.declared.profile.Profile.{Profile}
-use Rattle.waiting.specs.declared.react.Reaction.{Reaction}
+use Rattle.model.specs.declared.react.Reaction.{Reaction}
 use Rattle.model.specs.declared.state.State.{State}
 use Rattle.model.specs.Refusals.{numberOfRefusal}
 use Rattle.device.specs.Calls.{answerBytes}
 use Rattle.model.specs.Profiles.{profileAllowed}
 use Rattle.commands.specs.Reactions.{performed, byteReaction, situationOf}
-use Rattle.waiting.specs.Waits.{withLine, sampleReaction}
+use Rattle.model.specs.Groups.{withLine}
+use Rattle.waiting.specs.Waits.{sampleReaction}
 use Rattle.model.specs.States.{stateAllowed, startState}
 use Rattle.model.proofs.StateFacts.{start-allowed}
 use Rattle.line.specs.declared.receive.Line.{Line}
@@ -25,10 +26,10 @@ use Rattle.line.proofs.Kept.{Holds, Keeps, keeps-cleared, keeps-empty, markedAs
 use Rattle.history.specs.Tally.{Input, byteIs, sampleIs}
 use Rattle.history.specs.Waits.{Waits, startWaits, afterInput, waitsHold, WaitsEnd}
 use Rattle.history.proofs.Along.{Followed, Step, over-calls}
-use Rattle.history.proofs.WaitsAllowed.{byte-allowed, sample-allowed}
-use Rattle.history.proofs.WaitsDelivered.{Delivered, given, withheld, byte-delivered, sample-delivered}
+use Rattle.history.proofs.StaysAllowed.{byte-allowed, sample-allowed}
+use Rattle.history.proofs.Delivering.{Delivered, given, withheld, byte-delivered, sample-delivered}
 use Rattle.history.proofs.Verdicts.{verdict-ruled}
-use Rattle.history.proofs.WaitsPerformed.{same-line, performed-kind}
+use Rattle.history.proofs.Performing.{same-line, performed-kind}
 use Rattle.history.proofs.Ways.{by-choice}
 use Rattle.history.proofs.WaitsStep.{Follows, Reacts, ended-reacts, joined-reacts, sample-reacts}
 

@@ -8,18 +8,19 @@ use native.Mathlib.Omega.{arith}
 use borrow.Author.Tests.{eq-eqb, ne-eqb}
 use Rattle.answer.specs.declared.answer.Answer.the-variants as answers
 use Rattle.answer.specs.declared.answer.Status.the-variants.{I}
-use Rattle.answer.specs.Lines.{headText, lineOf}
+use Rattle.answer.specs.Lines.{headText, lineOf, headOf}
 use Rattle.model.specs.declared.profile.Profile.{Profile}
-use Rattle.waiting.specs.declared.react.Reaction.{Reaction}
+use Rattle.model.specs.declared.react.Reaction.{Reaction}
 use Rattle.model.specs.declared.state.Pending.{Pending}
 use Rattle.model.specs.declared.state.Pending.the-variants.{Nothing, Weigh, Zero, Tare}
 use Rattle.model.specs.declared.state.State.{State}
 use Rattle.weight.specs.declared.loads.Load.{Load}
 use Rattle.device.specs.Calls.{answerBytes}
-use Rattle.waiting.specs.Waits.{sampledState, withLine, withWaiting, reaction, measuredReaction, notWaiting, placeOfPending, settled, sampleReaction}
+use Rattle.model.specs.Groups.{withLine, withWaiting, reaction, notWaiting}
+use Rattle.waiting.specs.Waits.{sampledState, measuredReaction, placeOfPending, settled, sampleReaction}
 use Rattle.commands.specs.Reactions.{situationOf}
 use Rattle.model.specs.States.{isPending, stateAllowed}
-use Rattle.weighing.specs.Weighings.{headOf, weighed}
+use Rattle.weighing.specs.Weighings.{weighed}
 use Rattle.line.specs.declared.judge.Verdict.{Verdict}
 use Rattle.line.specs.declared.receive.Line.{Line}
 use Rattle.line.specs.Unbounded.{Marked, byteIn, endsUnbounded, finishedLine, judgementOf}
@@ -29,8 +30,8 @@ use Rattle.model.proofs.StateFacts.{allowed-state}
 use Rattle.history.specs.Tally.{Input, byteIs, sampleIs, isResetLine}
 use Rattle.history.specs.Waits.{Waits, nothing, command, isAwaiting, isEmpty, mayWait, afterLine, afterInput, byteHolds, awaitedHolds, inputHolds}
 use Rattle.history.proofs.Ways.{sample-cases}
-use Rattle.history.proofs.WaitsAnswer.{isSilent, silent-empty}
-use Rattle.history.proofs.WaitsPerformed.{Performed, answered, dropped, begins, awaitedOf, awaiting-is, settled-sent, settled-own}
+use Rattle.history.proofs.SentAnswers.{isSilent, silent-empty}
+use Rattle.history.proofs.Performing.{Performed, answered, dropped, begins, awaitedOf, awaiting-is, settled-sent, settled-own}
 use Rattle.history.proofs.Verdicts.{resets, reset-test}
 
 -- ---- the definitions, by whether a line ended

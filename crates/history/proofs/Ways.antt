@@ -5,21 +5,23 @@ use mathlib.Core.Bool.{Bool, true, false, cond, _||_, false≢true}
 use Prim.Native.Nat.{ℕ, _+_, _≤_, _<_}
 use borrow.Author.Tests.{eqb-true, leb-true, leb-false}
 use lib.Dec.{leb}
-use Rattle.answer.specs.Commands.{commandCount, kindOf, mayWait, needsSample, isSIR, isD, isDW, isT, isTA, isTAC, isTI, placeI5, placeS, placeZ, placeZI, placeReset, placeD, placeT, placeTA, placeTAC, placeTI}
+use Rattle.answer.specs.Commands.{commandCount, kindOf, mayWait, needsSample, isSIR, isD, isDW, isT, isTA, isTAC, isTI, placeS, placeZ, placeZI, placeReset, placeD, placeT, placeTA, placeTAC, placeTI, hasText, isI0, isI1}
 use Rattle.answer.specs.declared.answer.Answer.the-variants.{Plain}
 use Rattle.answer.specs.declared.answer.Answer.the-variants as answers
 use Rattle.answer.specs.declared.answer.Status.the-variants.{A, I}
 use Rattle.answer.specs.declared.command.Kind.{Kind}
 use Rattle.answer.specs.declared.command.Kind.the-variants.{Informs, Weighs, Zeroes, Resets, Shows, Tares, Unknown}
-use Rattle.answer.proofs.Rows.{informing, resetting, weighing-is, zeroing-is, showing-is, taring-is, is-known}
+use Rattle.answer.proofs.Rows.{informing-is, resetting, weighing-is, zeroing-is, showing-is, taring-is, is-known}
 use Rattle.commands.specs.Reactions.{informed, weighing, zeroing, showingWeight, showing, taring, runAs, run}
 use Rattle.model.specs.declared.profile.Profile.{Profile}
 use Rattle.model.specs.declared.state.Pending.the-variants.{Weigh, Zero, Tare}
 use Rattle.model.specs.declared.state.State.{State}
 use Rattle.model.specs.States.{isPending}
-use Rattle.waiting.specs.declared.react.Reaction.{Reaction}
-use Rattle.waiting.specs.Waits.{chosenReaction, measuredReaction, reaction, placeOfPending, sampledState, withWeighing, withWaiting, withRepeating, notWaiting, settled, begun, waited, sampleReaction}
-use Rattle.weighing.specs.Weighings.{headOf, stability, weighed, withTare, zeroed, tared, tareAnswer}
+use Rattle.model.specs.declared.react.Reaction.{Reaction}
+use Rattle.model.specs.Groups.{chosenReaction, reaction, withWeighing, withWaiting, withRepeating, notWaiting}
+use Rattle.waiting.specs.Waits.{measuredReaction, placeOfPending, sampledState, settled, begun, waited, sampleReaction}
+use Rattle.answer.specs.Lines.{headOf}
+use Rattle.weighing.specs.Weighings.{stability, weighed, withTare, zeroed, tared, tareAnswer}
 use Rattle.weight.specs.declared.loads.Load.{Load}
 
 -- a choice by its test
@@ -36,6 +38,20 @@ pub record Ruled (c : ℕ) : Type 0 where
   pub no-show : c ≡ placeD → ⊥
 
 module _ (P : Reaction → Type 0) (p : Profile) (s : State) (c : ℕ) (r : Ruled c) where
+  informing-ways : kindOf c ≡ Informs
+      → P (reaction s answers.CommandList)
+      → P (reaction s answers.Versions)
+      → (hasText c ≡ true → P (reaction s (answers.Text c)))
+      → P (informed s c)
+  informing-ways e lists versions texts = by (isI0 c) (isI1 c) (hasText c) (informing-is c (r .known) e) refl
+    where
+      by : (a b d : Bool) → (a || b || d) ≡ true → hasText c ≡ d
+          → P (reaction s (cond a answers.CommandList (cond b answers.Versions (cond d (answers.Text c) answers.Nothing))))
+      by true b d f h = lists
+      by false true d f h = versions
+      by false false true f h = texts h
+      by false false false f h = absurd (false≢true f)
+
   weighing-ways : kindOf c ≡ Weighs
       → (c ≡ placeS → P (begun p (withRepeating s false) Weigh))
       → (needsSample c ≡ true → P (reaction (withRepeating s (isSIR c)) (weighed p (s .weighing))))
@@ -88,9 +104,11 @@ module _ (P : Reaction → Type 0) (p : Profile) (s : State) (c : ℕ) (r : Rule
       (λ ta. tells (eqb-true c placeTA ta))
       (λ ta. absurd (false≢true (rw (t, ta, tac, ti) at (taring-is c (r .known) e)))))))
 
-  -- I0 to I5; S; SI and SIR; Z; ZI; DW; T; TI; TAC; TA alone
+  -- I0; I1; I2 to I5; S; SI and SIR; Z; ZI; DW; T; TI; TAC; TA alone
   pub run-cases
-      : (leb c placeI5 ≡ true → P (informed s c))
+      : P (reaction s answers.CommandList)
+      → P (reaction s answers.Versions)
+      → (hasText c ≡ true → P (reaction s (answers.Text c)))
       → (c ≡ placeS → P (begun p (withRepeating s false) Weigh))
       → (needsSample c ≡ true → P (reaction (withRepeating s (isSIR c)) (weighed p (s .weighing))))
       → (c ≡ placeZ → P (begun p s Zero))
@@ -102,10 +120,10 @@ module _ (P : Reaction → Type 0) (p : Profile) (s : State) (c : ℕ) (r : Rule
       → (c ≡ placeTA → P (reaction s (tareAnswer p (s .weighing .tare .0))))
       → P (run p s c)
   unfolding run
-  run-cases informs stable weighs zero zeroes shows tare tares clears tells = by-kind (kindOf c) refl
+  run-cases lists versions texts stable weighs zero zeroes shows tare tares clears tells = by-kind (kindOf c) refl
     where
       by-kind : (k : Kind) → kindOf c ≡ k → P (runAs k p s c)
-      by-kind Informs e = informs (informing c (r .known) e)
+      by-kind Informs e = informing-ways e lists versions texts
       by-kind Weighs e = weighing-ways e stable weighs
       by-kind Zeroes e = zeroing-ways e zero zeroes
       by-kind Resets e = absurd (r .no-reset (eqb-true c placeReset (resetting c (r .known) e)))

@@ -10,14 +10,14 @@ use lib.Seq.{take-at, drop-at}
 use Rattle.answer.specs.Commands.{placeS, placeT, placeTA, placeTI}
 use Rattle.answer.specs.declared.answer.Answer.the-variants.{Weight}
 use Rattle.answer.specs.declared.answer.Status.the-variants.{A, S, D}
-use Rattle.answer.specs.Lines.{lineEnd, headText, weightText, lineOf}
+use Rattle.answer.specs.Lines.{lineEnd, headText, weightText, lineOf, headOf}
 use Rattle.model.specs.declared.profile.Profile.{Profile}
-use Rattle.weighing.specs.Weighings.{headOf, numberOf}
+use Rattle.weighing.specs.Weighings.{numberOf}
 use Rattle.device.specs.Calls.{answerBytes}
 use Rattle.text.specs.declared.reading.FieldRead.the-variants.{Number as ReadNumber}
 use Rattle.text.specs.Ascii.{ascii, sameText}
-use Rattle.text.specs.Units.{unitText}
-use Rattle.weight.specs.Field.{fitsField}
+use Rattle.text.specs.UnitTexts.{unitText}
+use Rattle.weight.specs.Places.{fitsField}
 use Rattle.text.specs.Field.{fieldOf}
 use Rattle.text.specs.Reading.{readField}
 use Rattle.weight.specs.Rounding.{allowedResolution, inRange, placesOf}
@@ -25,7 +25,7 @@ use Rattle.weight.specs.Printing.{printable, printedNumber}
 use Rattle.weight.proofs.Allowed.{both-right}
 use Rattle.text.proofs.Named.{same-self}
 use Rattle.text.proofs.ReadBack.{read-back}
-use Rattle.text.proofs.Width.{field-length}
+use Rattle.text.proofs.FieldWidth.{field-length}
 use Rattle.history.specs.Tally.{tenOf, isWhole}
 
 -- ---- four pieces, of which the first has ten characters

@@ -9,7 +9,7 @@ use mathlib.Core.List.{List, [], _∷_, reverse}
 use lib.Dec.{leb, eqb}
 use lib.IntN.{natAbs, _-ℤ_}
 use Rattle.answer.specs.declared.answer.Answer.{Answer}
-use Rattle.answer.specs.declared.answer.Answer.the-variants.{Nothing, Plain, Weight, Refused, Text, Listed, CommandList, Versions}
+use Rattle.answer.specs.declared.answer.Answer.the-variants.{Nothing, Plain, Weight, ErrorLine, Text, Listed, CommandList, Versions}
 use Rattle.model.specs.declared.profile.Profile.{Profile}
 use Rattle.history.specs.Claim.{OverCalls}
 use Rattle.history.specs.Tally.{Event, Tally, startTally, numberFemtograms, exactWeight, allowance, tallied, afterEvent}
@@ -17,7 +17,7 @@ use Rattle.host.specs.declared.reader.Read.{Read}
 use Rattle.host.specs.declared.reader.Read.the-variants as reads
 use Rattle.host.specs.Reads.{readLine}
 use Rattle.text.specs.Ascii.{sameText}
-use Rattle.text.specs.Units.{unitText}
+use Rattle.text.specs.UnitTexts.{unitText}
 
 -- ---- an answer is split after every CR LF, a last unfinished piece included
 
@@ -48,7 +48,7 @@ valueHolds p t l (Plain h) = true
 valueHolds p t l (Weight h n) =
     sameText (unitText (n .unit)) (unitText (p .resolution .unit))
     && leb (2 * natAbs (numberFemtograms p (n .decimals) (n .places .0) -ℤ exactWeight t l)) (valueAllowance p t)
-valueHolds p t l (Refused e) = true
+valueHolds p t l (ErrorLine e) = true
 valueHolds p t l (Text c) = true
 valueHolds p t l (Listed last c) = true
 valueHolds p t l CommandList = true

@@ -8,13 +8,13 @@ use lib.IntN.{ℤ, pos, natAbs, _-ℤ_, _*ℤ_}
 use lib.ListN.{length, take, drop}
 use Rattle.model.specs.declared.profile.Profile.{Profile}
 use Rattle.line.specs.Unbounded.{Marked, endsUnbounded, afterMarked, finishedLine, byteIn, anyFaulty}
-use Rattle.line.specs.Judging.{beforeSpace, afterSpace}
+use Rattle.text.specs.Searching.{beforeSpace, afterSpace}
 use Rattle.text.specs.Ascii.{ascii, sameText}
 use Rattle.weight.specs.Units.{nanogramsOf}
-use Rattle.text.specs.Units.{unitText}
+use Rattle.text.specs.UnitTexts.{unitText}
 use Rattle.weight.specs.Rounding.{stepFemtograms, exactFemtograms}
 use Rattle.text.specs.Reading.{readField, isDecimal, decimalsIn, valueIn}
-use Rattle.weight.specs.Typed.{typedFemtograms}
+use Rattle.weight.specs.Amounts.{typedFemtograms}
 use Rattle.text.specs.declared.reading.FieldRead.{FieldRead}
 use Rattle.text.specs.declared.reading.FieldRead.the-variants.{Number, NoNumber}
 

@@ -9,19 +9,18 @@ use borrow.Author.Tests.{eq-eqb, ne-eqb, lt-ltb, le-ltb}
 use lib.Dec.{eqb, ltb, leb·suc-suc}
 use lib.ListN.{length, getD, take, drop}
 use lib.Seq.{length-take-le}
-use Rattle.answer.specs.Commands.{placeOf}
+use Rattle.answer.specs.Commands.{placeOf, hasText}
 use Rattle.answer.specs.declared.answer.Answer.{Answer}
 use Rattle.answer.specs.declared.answer.Answer.the-variants.{Plain, Text, Listed, Versions}
 use Rattle.answer.specs.declared.answer.Head.{Head}
 use Rattle.answer.specs.declared.answer.Status.{Status}
-use Rattle.forms.specs.Forms.{isIdentity}
 use Rattle.host.specs.Reads.{errorGuess, statusGuess, weightGuess, headGuess, fieldGuess, unitGuess, listedGuess, namedGuess, guessed}
-use Rattle.line.specs.Judging.{beforeSpace, hasSpace}
-use Rattle.weight.specs.Ascii.{space}
+use Rattle.text.specs.Searching.{beforeSpace, hasSpace}
+use Rattle.weight.specs.Characters.{space}
 use Rattle.text.specs.Reading.{readField}
-use Rattle.text.specs.Units.{unitNamed}
+use Rattle.text.specs.UnitTexts.{unitNamed}
 use Rattle.text.specs.declared.reading.FieldRead.{FieldRead}
-use Rattle.text.specs.declared.units.UnitRead.{UnitRead}
+use Rattle.text.specs.declared.unit_texts.UnitRead.{UnitRead}
 
 -- ---- the name before the first space
 
@@ -97,9 +96,9 @@ module _ (l : List ℕ) (n c : ℕ) (name : n ≡ length (beforeSpace l)) where
     pub versions-branch : (c ≡ 0 → ⊥) → c ≡ 1 → Versions ≡ namedGuess c l
     versions-branch z o = rw (longer, ne-eqb c 0 z, eq-eqb c 1 o)
 
-    pub text-branch : (c ≡ 0 → ⊥) → (c ≡ 1 → ⊥) → isIdentity c ≡ true → Text c ≡ namedGuess c l
+    pub text-branch : (c ≡ 0 → ⊥) → (c ≡ 1 → ⊥) → hasText c ≡ true → Text c ≡ namedGuess c l
     text-branch z o i = rw (longer, ne-eqb c 0 z, ne-eqb c 1 o, i)
 
-    pub weight-branch : {h : Head} {f : FieldRead} {u : UnitRead} {a : Answer} → (c ≡ 0 → ⊥) → (c ≡ 1 → ⊥) → isIdentity c ≡ false
+    pub weight-branch : {h : Head} {f : FieldRead} {u : UnitRead} {a : Answer} → (c ≡ 0 → ⊥) → (c ≡ 1 → ⊥) → hasText c ≡ false
         → h ≡ headGuess l → f ≡ fieldGuess l → u ≡ unitGuess l → a ≡ weightGuess h f u → a ≡ namedGuess c l
     weight-branch z o i p q r e = e ∙ rw (p, q, r, longer, ne-eqb c 0 z, ne-eqb c 1 o, i)

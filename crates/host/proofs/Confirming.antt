@@ -9,10 +9,10 @@ use borrow.Author.Tests.{eqb-true, ltb-true}
 use lib.Dec.{eqb, leb, ltb}
 use lib.ListN.{length, getD, take, drop, length-append}
 use lib.Seq.{getD-append-add, drop-append-add}
-use Rattle.answer.specs.Commands.{nameOf, placeIn, placeOf, commandCount}
+use Rattle.answer.specs.Commands.{nameOf, placeIn, placeOf, commandCount, hasText}
 use Rattle.answer.specs.Lines.{lineEnd, lineOf}
 use Rattle.answer.specs.declared.answer.Answer.{Answer}
-use Rattle.answer.specs.declared.answer.Answer.the-variants.{Nothing, Plain, Weight, Refused, Text, Listed, CommandList, Versions}
+use Rattle.answer.specs.declared.answer.Answer.the-variants.{Nothing, Plain, Weight, ErrorLine, Text, Listed, CommandList, Versions}
 use Rattle.answer.specs.declared.answer.Error.{Error}
 use Rattle.answer.specs.declared.answer.Error.the-variants.{Syntax, Transmission, Logical}
 use Rattle.answer.specs.declared.answer.Head.{Head}
@@ -20,26 +20,26 @@ use Rattle.answer.specs.declared.answer.Number.{Number}
 use Rattle.answer.specs.declared.answer.Status.{Status}
 use Rattle.answer.specs.declared.answer.Status.the-variants.{A, B, S, D, I, L, Over, Under}
 use Rattle.answer.proofs.Names.{found-name}
-use Rattle.forms.specs.Forms.{plainForm, weightForm, canForm, isIdentity}
+use Rattle.forms.specs.Forms.{plainForm, weightForm, canForm}
 use Rattle.forms.proofs.Forming.{weight-head, text-command}
-use Rattle.forms.proofs.Places.{plain-place, weight-place, identity-place, identity-width}
+use Rattle.forms.proofs.Places.{plain-place, weight-place, text-place, text-width}
 use Rattle.host.specs.Frames.{isEnded, weightFrame, errorFrame, textFrame, listedFrame, frameOf}
 use Rattle.host.specs.Reads.{statusGuess, errorGuess, weightGuess, headGuess, fieldGuess, unitGuess, listedGuess, namedGuess, plainLength, guessed, textPlace, textAt, confirms}
 use Rattle.host.proofs.Frames.{plain-same, weight-same, text-same, listed-same, error-same}
 use Rattle.host.proofs.Shapes.{statusByte, weightRest, quotedEnd, plain-line, weight-line, text-line, listed-line}
-use Rattle.line.specs.Judging.{beforeSpace, afterSpace, hasSpace}
+use Rattle.text.specs.Searching.{beforeSpace, afterSpace, hasSpace}
 use Rattle.text.specs.Ascii.{ascii, sameText}
 use Rattle.text.specs.Field.{fieldOf}
-use Rattle.text.specs.Units.{unitText, firstNamed, unitNamed}
+use Rattle.text.specs.UnitTexts.{unitText, firstNamed, unitNamed}
 use Rattle.text.specs.declared.reading.FieldRead.{FieldRead}
 use Rattle.text.specs.declared.reading.FieldRead.the-variants as fields
-use Rattle.text.specs.declared.units.UnitRead.{UnitRead}
-use Rattle.text.specs.declared.units.UnitRead.the-variants.{Named, Unknown}
+use Rattle.text.specs.declared.unit_texts.UnitRead.{UnitRead}
+use Rattle.text.specs.declared.unit_texts.UnitRead.the-variants.{Named, Unknown}
 use Rattle.weight.specs.declared.units.WeightUnit.{WeightUnit}
 use Rattle.weight.proofs.Allowed.{both-left}
 use Rattle.text.proofs.Named.{unit-write-back}
 use Rattle.text.proofs.Searching.{first-between}
-use Rattle.text.proofs.Width.{field-length}
+use Rattle.text.proofs.FieldWidth.{field-length}
 use Rattle.text.proofs.WriteBack.{write-back}
 
 -- ---- what a guess says of its line
@@ -74,7 +74,7 @@ abbrev Of : List ℕ → Answer → Type 0
 Of l Nothing = Unit
 Of l (Plain h) = PlainOf l h
 Of l (Weight h n) = WeightOf l h n
-Of l (Refused e) = getD l 1 0 ≡ errorByte e
+Of l (ErrorLine e) = getD l 1 0 ≡ errorByte e
 Of l (Text c) = TextOf l c
 Of l (Listed last c) = ListedOf l last c
 Of l CommandList = Unit
@@ -82,7 +82,7 @@ Of l Versions = Unit
 
 module _ (l : List ℕ) where
   error-of : (x y z : Bool) → eqb (getD l 1 0) 83 ≡ x → eqb (getD l 1 0) 84 ≡ y → eqb (getD l 1 0) 76 ≡ z
-      → Of l (cond x (Refused Syntax) (cond y (Refused Transmission) (cond z (Refused Logical) Nothing)))
+      → Of l (cond x (ErrorLine Syntax) (cond y (ErrorLine Transmission) (cond z (ErrorLine Logical) Nothing)))
   error-of true y z e f g = eqb-true (getD l 1 0) 83 e
   error-of false true z e f g = eqb-true (getD l 1 0) 84 f
   error-of false false true e f g = eqb-true (getD l 1 0) 76 g
@@ -205,14 +205,14 @@ module _ (l : List ℕ) (spaced : hasSpace l ≡ true) where
         ∙ weight-same w r f (unitText (n .unit)) (statusByte (h .status)) k byte cells ten named (omega (arith, some, cut-length))
         ∙ sym (ap₂ sameText (weight-line h n t (back .0) ∙ ap (λ (v : List ℕ). v ++ (32 ∷ weightRest (statusByte (h .status)) f (unitText (n .unit)))) name) cut)
 
-  text-framed : (c : ℕ) → c ≡ placeOf (beforeSpace l) → isIdentity c ≡ true
+  text-framed : (c : ℕ) → c ≡ placeOf (beforeSpace l) → hasText c ≡ true
       → textFrame l && isEnded l ≡ sameText (lineOf (Text c) (take (length l - 9) (drop 6 l))) l
   text-framed c place form =
       let w = beforeSpace l in
-      let p = identity-place c form in
+      let p = text-place c form in
       let known : placeOf w < commandCount = rw (← place) (omega arith) in
       let name : nameOf c ≡ w = ap nameOf place ∙ found-name w known in
-      let two : length w ≡ 2 = ap length (sym name) ∙ identity-width c form in
+      let two : length w ≡ 2 = ap length (sym name) ∙ text-width c form in
       let t = take (length l - 9) (drop 6 l) in
       ap (λ (v : List ℕ). textFrame v && isEnded v) cut
       ∙ text-after w (afterSpace l) t two (ap (λ (v : List ℕ). take (length v - 9) (drop 6 v)) (sym cut))
@@ -236,7 +236,7 @@ module _ (l : List ℕ) (spaced : hasSpace l ≡ true) where
       ∙ listed-same r (nameOf c) last c name (omega arith) (ap (λ (v : List ℕ). eqb (getD v 3 0) 65) (sym line) ∙ mark)
       ∙ sym (ap₂ sameText (listed-line last c t) line)
 
-error-framed : (l t : List ℕ) (e : Error) → getD l 1 0 ≡ errorByte e → errorFrame l && isEnded l ≡ sameText (lineOf (Refused e) t) l
+error-framed : (l t : List ℕ) (e : Error) → getD l 1 0 ≡ errorByte e → errorFrame l && isEnded l ≡ sameText (lineOf (ErrorLine e) t) l
 unfolding lineOf
 error-framed l t Syntax p = error-same l 83 (sym p)
 error-framed l t Transmission p = error-same l 84 (sym p)
@@ -251,7 +251,7 @@ framed-same : (a : Answer) (l : List ℕ) → Of l a → canForm a (textAt (text
 framed-same Nothing l g form = let z : _≡_ {A = ℕ} 0 1 = cc in absurd (omega arith)
 framed-same (Plain h) l g form = plain-framed l (g .spaced) h (g .head) [] (g .size) (both-left (plainForm (h .identification) (h .status)) true form)
 framed-same (Weight h n) l g form = weight-framed l (g .spaced) h (g .head) n [] (g .field) (g .unit) (weight-head h n [] form)
-framed-same (Refused e) l g form = error-framed l [] e g
+framed-same (ErrorLine e) l g form = error-framed l [] e g
 framed-same (Text c) l g form = text-framed l (g .spaced) c (g .place) (text-command c (take (length l - 9) (drop 6 l)) form)
 framed-same (Listed last c) l g form = listed-framed l (g .spaced) last c [] (g .place) (g .mark) (g .name) (ltb-true c commandCount (both-left (ltb c commandCount) true form))
 framed-same CommandList l g form = let z : _≡_ {A = ℕ} 0 1 = cc in absurd (omega arith)

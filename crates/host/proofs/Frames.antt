@@ -13,8 +13,8 @@ use Rattle.answer.specs.Commands.{levelOf}
 use Rattle.answer.specs.Lines.{lineEnd}
 use Rattle.host.specs.Frames.{isEnded, weightFrame, errorFrame, quoteFrame, textFrame, listedFrame}
 use Rattle.host.proofs.Shapes.{weightRest, quotedEnd, listedByte}
-use Rattle.line.specs.Judging.{beforeSpace}
-use Rattle.weight.specs.Ascii.{digit}
+use Rattle.text.specs.Searching.{beforeSpace}
+use Rattle.weight.specs.Characters.{digit}
 use Rattle.text.specs.Ascii.{sameText}
 use Rattle.text.proofs.Named.{same-is}
 

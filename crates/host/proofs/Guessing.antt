@@ -9,32 +9,32 @@ use borrow.Author.Tests.{eq-eqb, ne-eqb, ltb-true, lt-leb}
 use lib.Dec.{eqb, ltb, leb, lit<}
 use lib.ListN.{length, drop, length-append}
 use lib.Seq.{getD-append-add, drop-append-add, take-append-seam, take-at}
-use Rattle.answer.specs.Commands.{nameOf, levelOf, placeIn, placeOf, commandCount}
+use Rattle.answer.specs.Commands.{nameOf, levelOf, placeIn, placeOf, commandCount, hasText, placeI0, placeI1, placeI2, placeI5}
 use Rattle.answer.specs.Lines.{lineEnd, lineOf}
 use Rattle.answer.specs.declared.answer.Answer.{Answer}
-use Rattle.answer.specs.declared.answer.Answer.the-variants.{Nothing, Plain, Weight, Refused, Text, Listed, CommandList, Versions}
+use Rattle.answer.specs.declared.answer.Answer.the-variants.{Nothing, Plain, Weight, ErrorLine, Text, Listed, CommandList, Versions}
 use Rattle.answer.specs.declared.answer.Error.{Error}
 use Rattle.answer.specs.declared.answer.Error.the-variants.{Syntax, Transmission, Logical}
 use Rattle.answer.specs.declared.answer.Head.{Head}
 use Rattle.answer.specs.declared.answer.Number.{Number}
 use Rattle.answer.proofs.Names.{name-found}
-use Rattle.forms.specs.Forms.{plainForm, weightForm, noText, canForm, isIdentity}
+use Rattle.forms.specs.Forms.{plainForm, weightForm, noText, canForm}
 use Rattle.forms.proofs.Forming.{weight-head, weight-fits, text-command}
-use Rattle.forms.proofs.Places.{plain-place, weight-place, identity-place}
+use Rattle.forms.proofs.Places.{plain-place, weight-place, text-place}
 use Rattle.host.specs.Reads.{statusGuess, weightGuess, headGuess, fieldGuess, unitGuess, listedGuess, guessed}
 use Rattle.host.proofs.Named.{name-unspaced, before-word, word-spaced}
 use Rattle.host.proofs.Shapes.{statusByte, status-back, weightRest, quotedEnd, listedByte, plain-line, weight-line, text-line, listed-line}
-use Rattle.line.specs.Judging.{hasSpace}
-use Rattle.weight.specs.Ascii.{digit}
+use Rattle.text.specs.Searching.{hasSpace}
+use Rattle.weight.specs.Characters.{digit}
 use Rattle.text.specs.Ascii.{ascii}
-use Rattle.weight.specs.Field.{fitsField}
+use Rattle.weight.specs.Places.{fitsField}
 use Rattle.text.specs.Field.{fieldOf}
 use Rattle.text.specs.Reading.{readField}
-use Rattle.text.specs.Units.{unitText, unitNamed}
+use Rattle.text.specs.UnitTexts.{unitText, unitNamed}
 use Rattle.weight.proofs.Allowed.{both-left}
 use Rattle.text.proofs.Named.{unit-read-back}
 use Rattle.text.proofs.ReadBack.{read-back}
-use Rattle.text.proofs.Width.{field-length}
+use Rattle.text.proofs.FieldWidth.{field-length}
 
 -- ---- a word without a space, a space and a rest
 
@@ -60,7 +60,7 @@ module _ (w : List ℕ) (none : hasSpace w ≡ false) where
     long-guessed : guessed (w ++ (32 ∷ r))
         ≡ cond (eqb (placeOf w) 0) (listedGuess (w ++ (32 ∷ r)))
         (cond (eqb (placeOf w) 1) Versions
-        (cond (isIdentity (placeOf w)) (Text (placeOf w))
+        (cond (hasText (placeOf w)) (Text (placeOf w))
         (weightGuess (headGuess (w ++ (32 ∷ r))) (fieldGuess (w ++ (32 ∷ r))) (unitGuess (w ++ (32 ∷ r))))))
     unfolding guessed
     long-guessed =
@@ -113,10 +113,10 @@ module _ (h : Head) where
         long-guessed w none (weightRest b f u) (omega (arith, length-append f (32 ∷ (u ++ lineEnd))))
         ∙ rw (
           p,
-          ne-eqb c 0 (λ e. omega arith),
-          ne-eqb c 1 (λ e. omega arith),
-          lt-leb c 5 (omega arith),
-          and-false (leb 2 c),
+          ne-eqb c placeI0 (λ e. omega arith),
+          ne-eqb c placeI1 (λ e. omega arith),
+          lt-leb c placeI5 (omega arith),
+          and-false (leb placeI2 c),
           head-guessed w none b f u ten,
           field-guessed w none b f u ten,
           unit-guessed w none b f u ten,
@@ -132,9 +132,9 @@ module _ (h : Head) where
         ap guessed (weight-line h n t fits)
         ∙ weight-guessed (nameOf c) (name-unspaced c) (name-found c (weight-place c (h .status) form .1))
 
-guessed-text : (c : ℕ) (t : List ℕ) → isIdentity c ≡ true → guessed (lineOf (Text c) t) ≡ Text c
+guessed-text : (c : ℕ) (t : List ℕ) → hasText c ≡ true → guessed (lineOf (Text c) t) ≡ Text c
 guessed-text c t e =
-    let p = identity-place c e in
+    let p = text-place c e in
     let rest : List ℕ = 65 ∷ 32 ∷ quotedEnd t in
     ap guessed (text-line c t)
     ∙ long-guessed (nameOf c) (name-unspaced c) rest (omega (arith, length-append t (34 ∷ lineEnd)))
@@ -158,7 +158,7 @@ guessed-versions : (t : List ℕ) → guessed (lineOf Versions t) ≡ Versions
 unfolding guessed lineOf placeOf placeIn
 guessed-versions t = refl
 
-guessed-error : (e : Error) (t : List ℕ) → guessed (lineOf (Refused e) t) ≡ Refused e
+guessed-error : (e : Error) (t : List ℕ) → guessed (lineOf (ErrorLine e) t) ≡ ErrorLine e
 unfolding guessed lineOf
 guessed-error Syntax t = refl
 guessed-error Transmission t = refl
@@ -171,7 +171,7 @@ pub guessed-back : (a : Answer) (t : List ℕ) → canForm a t ≡ true → gues
 guessed-back Nothing t e = let z : _≡_ {A = ℕ} 0 1 = cc in absurd (omega arith)
 guessed-back (Plain h) t e = guessed-plain h t (both-left (plainForm (h .identification) (h .status)) (noText t) e)
 guessed-back (Weight h n) t e = guessed-weight h n (weight-head h n t e) (weight-fits h n t e) t
-guessed-back (Refused e) t form = guessed-error e t
+guessed-back (ErrorLine e) t form = guessed-error e t
 guessed-back (Text c) t e = guessed-text c t (text-command c t e)
 guessed-back (Listed last c) t e = guessed-listed last c t (ltb-true c commandCount (both-left (ltb c commandCount) (noText t) e))
 guessed-back CommandList t e = let z : _≡_ {A = ℕ} 0 1 = cc in absurd (omega arith)

@@ -8,8 +8,8 @@ use borrow.Author.Tests.{not-true}
 use lib.Dec.{eqb}
 use Rattle.answer.specs.Commands.{names, nameOf}
 use Rattle.answer.proofs.Names.{at-name}
-use Rattle.line.specs.Judging.{beforeSpace, hasSpace}
-use Rattle.weight.specs.Ascii.{space}
+use Rattle.text.specs.Searching.{beforeSpace, hasSpace}
+use Rattle.weight.specs.Characters.{space}
 use Rattle.weight.proofs.Allowed.{neither-left, neither-right}
 
 -- ---- no name has a space

@@ -13,7 +13,7 @@ use Rattle.answer.specs.declared.answer.Answer.{Answer}
 use Rattle.answer.specs.declared.answer.Answer.the-variants.{Plain}
 use Rattle.answer.specs.declared.answer.Head.{Head}
 use Rattle.emit.specs.declared.emit.Emitted.{Emitted}
-use Rattle.forms.specs.Forms.{plainForm, canForm}
+use Rattle.forms.specs.Forms.{plainForm, canForm, longestLine}
 use Rattle.forms.proofs.Forming.{form-length}
 use Rattle.host.specs.declared.reader.Read.{Read}
 use Rattle.host.specs.declared.reader.Read.the-variants.{Line, Refused}
@@ -25,12 +25,12 @@ use Rattle.host.specs.Writes.{writing, WritesLine}
 use Rattle.host.proofs.Branches.{spaced-branch, plain-branch}
 use Rattle.host.proofs.Confirming.{framed-confirms}
 use Rattle.host.proofs.Inverse.{refused-exactly}
-use Rattle.line.specs.Judging.{beforeSpace}
+use Rattle.text.specs.Searching.{beforeSpace}
 
 -- ---- a line read
 
 -- no answer forms a longer line
-pub too-long : (l : List ℕ) → 49 < length l → Refused ≡ readLine l
+pub too-long : (l : List ℕ) → longestLine < length l → Refused ≡ readLine l
 too-long l h = sym (refused-exactly l .1 (λ a t form e. omega (arith, form-length a t form, ap length e)))
 
 module _ (l : List ℕ) (a : Answer) (p : ReadText) (framed : Bool) (guess : a ≡ guessed l) (place : p ≡ textPlace a l) (frame : framed ≡ frameOf a l) where

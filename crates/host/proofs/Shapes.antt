@@ -12,11 +12,11 @@ use Rattle.answer.specs.declared.answer.Number.{Number}
 use Rattle.answer.specs.declared.answer.Status.{Status}
 use Rattle.answer.specs.declared.answer.Status.the-variants.{A, B, S, D, I, L, Over, Under}
 use Rattle.host.specs.Reads.{statusGuess}
-use Rattle.weight.specs.Ascii.{digit}
+use Rattle.weight.specs.Characters.{digit}
 use Rattle.text.specs.Ascii.{ascii}
-use Rattle.weight.specs.Field.{fitsField}
+use Rattle.weight.specs.Places.{fitsField}
 use Rattle.text.specs.Field.{fieldOf}
-use Rattle.text.specs.Units.{unitText}
+use Rattle.text.specs.UnitTexts.{unitText}
 
 -- ---- a status is one byte, and that byte tells it
 

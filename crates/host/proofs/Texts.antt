@@ -12,10 +12,10 @@ use lib.Seq.{drop-append-add, take-append-seam}
 use Rattle.answer.specs.Commands.{nameOf, commandCount}
 use Rattle.answer.specs.Lines.{lineEnd, lineOf}
 use Rattle.answer.specs.declared.answer.Answer.{Answer}
-use Rattle.answer.specs.declared.answer.Answer.the-variants.{Nothing, Plain, Weight, Refused, Text, Listed, CommandList, Versions}
+use Rattle.answer.specs.declared.answer.Answer.the-variants.{Nothing, Plain, Weight, ErrorLine, Text, Listed, CommandList, Versions}
 use Rattle.forms.specs.Forms.{plainForm, weightForm, numberForm, noText, canForm}
 use Rattle.forms.proofs.Forming.{text-command}
-use Rattle.forms.proofs.Places.{identity-width}
+use Rattle.forms.proofs.Places.{text-width}
 use Rattle.host.specs.Reads.{textPlace, textAt}
 use Rattle.host.proofs.Shapes.{quotedEnd, text-line}
 use Rattle.weight.proofs.Allowed.{both-right}
@@ -35,8 +35,8 @@ pub text-back : (a : Answer) (t : List ℕ) → canForm a t ≡ true → textAt 
 text-back Nothing t e = let z : _≡_ {A = ℕ} 0 1 = cc in absurd (omega arith)
 text-back (Plain h) t e = none-is t (both-right (plainForm (h .identification) (h .status)) (noText t) e)
 text-back (Weight h n) t e = none-is t (both-right (weightForm (h .identification) (h .status) && numberForm (h .identification) n) (noText t) e)
-text-back (Refused e) t form = none-is t form
-text-back (Text c) t e = rw (text-line c t) (text-stands (nameOf c) t (identity-width c (text-command c t e)))
+text-back (ErrorLine e) t form = none-is t form
+text-back (Text c) t e = rw (text-line c t) (text-stands (nameOf c) t (text-width c (text-command c t e)))
 text-back (Listed last c) t e = none-is t (both-right (ltb c commandCount) (noText t) e)
 text-back CommandList t e = let z : _≡_ {A = ℕ} 0 1 = cc in absurd (omega arith)
 text-back Versions t e = none-is t e

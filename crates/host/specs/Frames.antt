@@ -9,9 +9,10 @@ use lib.ListN.{length, getD}
 use Rattle.answer.specs.Commands.{levelOf}
 use Rattle.answer.specs.Lines.{lineOf}
 use Rattle.answer.specs.declared.answer.Answer.{Answer}
-use Rattle.answer.specs.declared.answer.Answer.the-variants.{Nothing, Plain, Weight, Refused, Text, Listed, CommandList, Versions}
-use Rattle.line.specs.Judging.{beforeSpace}
-use Rattle.weight.specs.Ascii.{digit}
+use Rattle.answer.specs.declared.answer.Answer.the-variants.{Nothing, Plain, Weight, ErrorLine, Text, Listed, CommandList, Versions}
+use Rattle.weight.specs.Characters.{quote}
+use Rattle.text.specs.Searching.{beforeSpace}
+use Rattle.weight.specs.Characters.{digit}
 use Rattle.text.specs.Ascii.{sameText}
 
 -- CR LF
@@ -27,7 +28,7 @@ errorFrame l = eqb (length l) 4 && eqb (getD l 0 0) 69
 
 -- a space and a quote from i on, and the quote before CR LF
 abbrev pub quoteFrame : ℕ → List ℕ → Bool
-quoteFrame i l = eqb (getD l i 0) 32 && eqb (getD l (i + 1) 0) 34 && eqb (getD l (length l - 3) 0) 34
+quoteFrame i l = eqb (getD l i 0) 32 && eqb (getD l (i + 1) 0) quote && eqb (getD l (length l - 3) 0) quote
 
 abbrev pub textFrame : List ℕ → Bool
 textFrame l = leb 9 (length l) && eqb (getD l 3 0) 65 && quoteFrame 4 l
@@ -41,7 +42,7 @@ abbrev pub frameOf : Answer → List ℕ → Bool
 frameOf Nothing l = false
 frameOf (Plain h) l = isEnded l
 frameOf (Weight h n) l = weightFrame (length (beforeSpace l)) l && isEnded l
-frameOf (Refused e) l = errorFrame l && isEnded l
+frameOf (ErrorLine e) l = errorFrame l && isEnded l
 frameOf (Text c) l = textFrame l && isEnded l
 frameOf (Listed last c) l = listedFrame last c l && isEnded l
 frameOf CommandList l = false

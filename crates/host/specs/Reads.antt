@@ -6,32 +6,32 @@ use mathlib.Core.Bool.{Bool, cond, _&&_}
 use mathlib.Core.List.{List}
 use lib.Dec.{eqb}
 use lib.ListN.{length, getD, take, drop}
-use Rattle.answer.specs.Commands.{placeOf}
+use Rattle.answer.specs.Commands.{placeOf, isI0, isI1, hasText}
 use Rattle.answer.specs.Lines.{lineOf}
 use Rattle.answer.specs.declared.answer.Answer.{Answer}
-use Rattle.answer.specs.declared.answer.Answer.the-variants.{Nothing, Plain, Weight, Refused, Text, Listed, CommandList, Versions}
+use Rattle.answer.specs.declared.answer.Answer.the-variants.{Nothing, Plain, Weight, ErrorLine, Text, Listed, CommandList, Versions}
 use Rattle.answer.specs.declared.answer.Error.the-variants.{Syntax, Transmission, Logical}
 use Rattle.answer.specs.declared.answer.Head.{Head}
 use Rattle.answer.specs.declared.answer.Status.{Status}
 use Rattle.answer.specs.declared.answer.Status.the-variants.{A, B, S, D, I, L, Over, Under}
-use Rattle.forms.specs.Forms.{canForm, isIdentity}
+use Rattle.forms.specs.Forms.{canForm}
 use Rattle.host.specs.declared.reader.Read.{Read}
 use Rattle.host.specs.declared.reader.Read.the-variants as reads
 use Rattle.host.specs.declared.reader.ReadText.{ReadText}
-use Rattle.line.specs.Judging.{beforeSpace, hasSpace}
+use Rattle.text.specs.Searching.{beforeSpace, hasSpace}
 use Rattle.text.specs.Ascii.{sameText}
 use Rattle.text.specs.Reading.{readField}
-use Rattle.text.specs.Units.{unitNamed}
+use Rattle.text.specs.UnitTexts.{unitNamed}
 use Rattle.text.specs.declared.reading.FieldRead.{FieldRead}
 use Rattle.text.specs.declared.reading.FieldRead.the-variants.{Number, NoNumber}
-use Rattle.text.specs.declared.units.UnitRead.{UnitRead}
-use Rattle.text.specs.declared.units.UnitRead.the-variants.{Named, Unknown}
+use Rattle.text.specs.declared.unit_texts.UnitRead.{UnitRead}
+use Rattle.text.specs.declared.unit_texts.UnitRead.the-variants.{Named, Unknown}
 
 -- ---- the answer that a line could be
 
 -- by its second letter
 abbrev pub errorGuess : ℕ → Answer
-errorGuess b = cond (eqb b 83) (Refused Syntax) (cond (eqb b 84) (Refused Transmission) (cond (eqb b 76) (Refused Logical) Nothing))
+errorGuess b = cond (eqb b 83) (ErrorLine Syntax) (cond (eqb b 84) (ErrorLine Transmission) (cond (eqb b 76) (ErrorLine Logical) Nothing))
 
 -- the status of a byte; B, which only I0 has, for any other
 abbrev pub statusGuess : ℕ → Status
@@ -71,9 +71,9 @@ listedGuess l = Listed (eqb (getD l 3 0) 65) (placeOf (take (length l - 11) (dro
 abbrev pub namedGuess : ℕ → List ℕ → Answer
 namedGuess c l =
     cond (eqb (length l) (plainLength l)) (Plain (headGuess l))
-    (cond (eqb c 0) (listedGuess l)
-    (cond (eqb c 1) Versions
-    (cond (isIdentity c) (Text c) (weightGuess (headGuess l) (fieldGuess l) (unitGuess l)))))
+    (cond (isI0 c) (listedGuess l)
+    (cond (isI1 c) Versions
+    (cond (hasText c) (Text c) (weightGuess (headGuess l) (fieldGuess l) (unitGuess l)))))
 
 unfoldable pub guessed : List ℕ → Answer
 guessed l = cond (hasSpace l) (namedGuess (placeOf (beforeSpace l)) l) (errorGuess (getD l 1 0))
@@ -84,7 +84,7 @@ abbrev pub textPlace : Answer → List ℕ → ReadText
 textPlace Nothing l = record { start = 0; len = 0 }
 textPlace (Plain h) l = record { start = 0; len = 0 }
 textPlace (Weight h n) l = record { start = 0; len = 0 }
-textPlace (Refused e) l = record { start = 0; len = 0 }
+textPlace (ErrorLine e) l = record { start = 0; len = 0 }
 textPlace (Text c) l = record { start = 6; len = length l - 9 }
 textPlace (Listed last c) l = record { start = 0; len = 0 }
 textPlace CommandList l = record { start = 0; len = 0 }

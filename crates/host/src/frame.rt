@@ -2,18 +2,17 @@
 ghost use mathlib.Core.Path.{_≡_};
 ghost use Prim.Native.Nat.{_≤_};
 ghost use lib.ListN.{length};
+ghost use Rattle.forms.specs.Forms.{longestLine};
 ghost use Rattle.host.specs.Frames.{isEnded, weightFrame, errorFrame, quoteFrame, textFrame, listedFrame, frameOf};
-ghost use Rattle.line.specs.Judging.{beforeSpace};
+ghost use Rattle.text.specs.Searching.{beforeSpace};
 use crate::scan::left;
 use answer::Answer;
 use answer::level_of;
 use text::byte_at;
 use text::same_text;
 
-const ZERO: u8 = 48;
-
 pub fn is_ended(line: &[u8]) -> bool
-    requires { ⌜ length (now line) ≤ 49 ⌝ }
+    requires { ⌜ length (now line) ≤ longestLine ⌝ }
     ensures { λ r. ⌜ r ≡ isEnded (now (line .entry)) ⌝ }
 {
     let at = left(line.len(), 2);
@@ -22,7 +21,7 @@ pub fn is_ended(line: &[u8]) -> bool
 
 // The spaces on both sides of the ten characters.
 fn is_weight_framed(line: &[u8], name: usize) -> bool
-    requires { ⌜ name ≤ 49 ⌝ }
+    requires { ⌜ name ≤ longestLine ⌝ }
     requires { ⌜ name ≡ length (beforeSpace (now line)) ⌝ }
     ensures { λ r. ⌜ r ≡ weightFrame (length (beforeSpace (now (line .entry)))) (now (line .entry)) ⌝ }
 {
@@ -37,7 +36,7 @@ fn is_error_framed(line: &[u8]) -> bool
 
 // A space and a quote from `at` on, and the quote before CR LF.
 fn is_quoted_from(line: &[u8], at: usize) -> bool
-    requires { ⌜ at ≤ 49 ⌝ }
+    requires { ⌜ at ≤ longestLine ⌝ }
     ensures { λ r. ⌜ r ≡ quoteFrame at (now (line .entry)) ⌝ }
 {
     let end = left(line.len(), 3);
@@ -55,14 +54,14 @@ fn is_listed_framed(line: &[u8], last: bool, command: u8) -> bool
 {
     (last | (byte_at(line, 3) == b'B'))
         & (byte_at(line, 4) == b' ')
-        & (byte_at(line, 5) == ZERO + level_of(command))
+        & (byte_at(line, 5) == b'0' + level_of(command))
         & is_quoted_from(line, 6)
 }
 
 // Whether these bytes are what the answer's line has there.
 pub fn is_framed(answer: Answer, line: &[u8], name: usize) -> bool
-    requires { ⌜ length (now line) ≤ 49 ⌝ }
-    requires { ⌜ name ≤ 49 ⌝ }
+    requires { ⌜ length (now line) ≤ longestLine ⌝ }
+    requires { ⌜ name ≤ longestLine ⌝ }
     requires { ⌜ name ≡ length (beforeSpace (now line)) ⌝ }
     ensures { λ r. ⌜ r ≡ frameOf answer (now (line .entry)) ⌝ }
 {
@@ -70,7 +69,7 @@ pub fn is_framed(answer: Answer, line: &[u8], name: usize) -> bool
         Answer::Nothing => false,
         Answer::Plain(_) => is_ended(line),
         Answer::Weight(_, _) => is_weight_framed(line, name) & is_ended(line),
-        Answer::Refused(_) => is_error_framed(line) & is_ended(line),
+        Answer::ErrorLine(_) => is_error_framed(line) & is_ended(line),
         Answer::Text(_) => is_text_framed(line) & is_ended(line),
         Answer::Listed(last, command) => is_listed_framed(line, last, command) & is_ended(line),
         Answer::CommandList => false,

@@ -2,9 +2,10 @@
 ghost use mathlib.Core.Path.{_≡_};
 ghost use Prim.Native.Nat.{_≤_};
 ghost use lib.ListN.{length};
+ghost use Rattle.forms.specs.Forms.{longestLine};
 ghost use Rattle.answer.specs.Commands.{placeOf};
 ghost use Rattle.host.specs.Reads.{errorGuess, statusGuess, weightGuess, headGuess, fieldGuess, unitGuess, listedGuess, namedGuess, guessed};
-ghost use Rattle.line.specs.Judging.{beforeSpace};
+ghost use Rattle.text.specs.Searching.{beforeSpace};
 use crate::scan::left;
 use answer::Answer;
 use answer::Error;
@@ -28,9 +29,9 @@ fn error_guess(letter: u8) -> Answer
     ensures { λ r. ⌜ r ≡ errorGuess letter ⌝ }
 {
     match letter {
-        b'S' => Answer::Refused(Error::Syntax),
-        b'T' => Answer::Refused(Error::Transmission),
-        b'L' => Answer::Refused(Error::Logical),
+        b'S' => Answer::ErrorLine(Error::Syntax),
+        b'T' => Answer::ErrorLine(Error::Transmission),
+        b'L' => Answer::ErrorLine(Error::Logical),
         _ => Answer::Nothing,
     }
 }
@@ -53,7 +54,7 @@ fn status_guess(byte: u8) -> Status
 
 // `name` is the length of the name, and `command` its place.
 pub fn head_guess(line: &[u8], name: usize, command: u8) -> Head
-    requires { ⌜ name ≤ 49 ⌝ }
+    requires { ⌜ name ≤ longestLine ⌝ }
     requires { ⌜ name ≡ length (beforeSpace (now line)) ⌝ }
     requires { ⌜ command ≡ placeOf (beforeSpace (now line)) ⌝ }
     ensures { λ r. ⌜ r ≡ headGuess (now (line .entry)) ⌝ }
@@ -66,7 +67,7 @@ pub fn head_guess(line: &[u8], name: usize, command: u8) -> Head
 
 // The ten characters of a weight.
 fn field_guess(line: &[u8], name: usize) -> FieldRead
-    requires { ⌜ name ≤ 49 ⌝ }
+    requires { ⌜ name ≤ longestLine ⌝ }
     requires { ⌜ name ≡ length (beforeSpace (now line)) ⌝ }
     ensures { λ r. ⌜ r ≡ fieldGuess (now (line .entry)) ⌝ }
 {
@@ -74,7 +75,7 @@ fn field_guess(line: &[u8], name: usize) -> FieldRead
 }
 
 fn unit_guess(line: &[u8], name: usize) -> UnitRead
-    requires { ⌜ name ≤ 49 ⌝ }
+    requires { ⌜ name ≤ longestLine ⌝ }
     requires { ⌜ name ≡ length (beforeSpace (now line)) ⌝ }
     ensures { λ r. ⌜ r ≡ unitGuess (now (line .entry)) ⌝ }
 {
@@ -112,7 +113,7 @@ fn listed_guess(line: &[u8]) -> Answer
 
 // A line with a space. I0, I1 and the texts answer by more than a status.
 fn named_guess(line: &[u8], name: usize, command: u8) -> Answer
-    requires { ⌜ name ≤ 49 ⌝ }
+    requires { ⌜ name ≤ longestLine ⌝ }
     requires { ⌜ name ≡ length (beforeSpace (now line)) ⌝ }
     requires { ⌜ command ≡ placeOf (beforeSpace (now line)) ⌝ }
     ensures { λ r. ⌜ r ≡ namedGuess command (now (line .entry)) ⌝ }
@@ -138,7 +139,7 @@ fn named_guess(line: &[u8], name: usize, command: u8) -> Answer
 
 // `name` is how many bytes stand before the first space.
 pub fn guess_answer(line: &[u8], name: usize) -> Answer
-    requires { ⌜ name ≤ 49 ⌝ }
+    requires { ⌜ name ≤ longestLine ⌝ }
     requires { ⌜ name ≡ length (beforeSpace (now line)) ⌝ }
     ensures { λ r. ⌜ r ≡ guessed (now (line .entry)) ⌝ }
 {

@@ -2,8 +2,9 @@
 ghost use mathlib.Core.Path.{_≡_};
 ghost use Prim.Native.Nat.{_+_, _≤_};
 ghost use lib.ListN.{length};
+ghost use Rattle.forms.specs.Forms.{longestLine};
 ghost use Rattle.host.specs.Reads.{textPlace, readLine, numberOfRead, numberOfLine};
-ghost use Rattle.line.specs.Judging.{beforeSpace};
+ghost use Rattle.text.specs.Searching.{beforeSpace};
 use crate::frame::is_ended;
 use crate::frame::is_framed;
 use crate::guess::guess_answer;
@@ -41,7 +42,7 @@ fn text_place(answer: Answer, line: &[u8]) -> ReadText
         Answer::Nothing => NO_TEXT,
         Answer::Plain(_) => NO_TEXT,
         Answer::Weight(_, _) => NO_TEXT,
-        Answer::Refused(_) => NO_TEXT,
+        Answer::ErrorLine(_) => NO_TEXT,
         Answer::Text(_) => ReadText {
             start: 6,
             len: left(line.len(), 9),
@@ -54,7 +55,7 @@ fn text_place(answer: Answer, line: &[u8]) -> ReadText
 
 // An identification and a status alone: the most frequent line is read without the tests of the others.
 fn read_plain(line: &[u8], name: usize) -> Read
-    requires { ⌜ length (now line) ≤ 49 ⌝ }
+    requires { ⌜ length (now line) ≤ longestLine ⌝ }
     requires { ⌜ name ≡ length (beforeSpace (now line)) ⌝ }
     requires { ⌜ length (now line) ≡ name + 4 ⌝ }
     ensures { λ r. ⌜ r ≡ readLine (now (line .entry)) ⌝ }

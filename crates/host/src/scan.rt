@@ -2,7 +2,7 @@
 ghost use mathlib.Core.Path.{_≡_};
 ghost use Prim.Native.Nat.{_-_, _≤_};
 ghost use lib.ListN.{length};
-ghost use Rattle.line.specs.Judging.{beforeSpace};
+ghost use Rattle.text.specs.Searching.{beforeSpace};
 use text::first_at;
 
 // How many bytes stand before the first space; all of them where there is none.

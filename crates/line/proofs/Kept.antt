@@ -12,19 +12,7 @@ use lib.ListN.{length, take, drop, set, length-append, length-set, length-map}
 use lib.Seq.{take-all, take-append-le, take-suc-set}
 use borrow.Author.Tests.{lt-ltb, le-ltb, ltb-true, ltb-false, eqb-true, not-true}
 use Rattle.line.specs.declared.receive.Line.{Line}
-use Rattle.line.specs.Receiving.{
-  carriageReturn,
-  lineFeed,
-  contentOf,
-  clearedLine,
-  emptyLine,
-  joinedLine,
-  settledLine,
-  chosenLine,
-  withReturn,
-  endsLine,
-  receivedByte,
-}
+use Rattle.line.specs.Receiving.{carriageReturn, lineFeed, contentOf, clearedLine, emptyLine, joinedLine, settledLine, chosenLine, withReturn, endsLine, receivedByte, lineLimit}
 use Rattle.line.specs.Judging.{judgement}
 use Rattle.line.specs.Parts.{textRows}
 use Rattle.line.specs.Unbounded.{
@@ -43,10 +31,10 @@ use Rattle.line.specs.declared.judge.Situation.{Situation}
 
 -- the line l holds the bytes f, the oldest first: the first 64 of them, and of the others that they came and whether one was faulty
 pub record Holds (l : Line) (f : List Marked) : Type 0 where
-  pub cells : length (l .bytes) ≡ 64
-  pub content : contentOf l ≡ take 64 (map byteIn f)
-  pub len : l .len ≡ min 64 (length f)
-  pub over : l .over ≡ ltb 64 (length f)
+  pub cells : length (l .bytes) ≡ lineLimit
+  pub content : contentOf l ≡ take lineLimit (map byteIn f)
+  pub len : l .len ≡ min lineLimit (length f)
+  pub over : l .over ≡ ltb lineLimit (length f)
   pub faulty : l .faulty ≡ anyFaulty f
 
 -- the bytes of u, the newest first, without a good CR at its end
@@ -60,7 +48,7 @@ pub record Keeps (l : Line) (u : List Marked) : Type 0 where
 
 -- ---- nothing received
 
-pub keeps-cleared : (l : Line) → length (l .bytes) ≡ 64 → Keeps (clearedLine l) []
+pub keeps-cleared : (l : Line) → length (l .bytes) ≡ lineLimit → Keeps (clearedLine l) []
 keeps-cleared l h = record { returned = refl; held = record { cells = h; content = refl; len = refl; over = refl; faulty = refl } }
 
 pub keeps-empty : Keeps emptyLine []
@@ -84,12 +72,12 @@ module _ (l : Line) (f : List Marked) (h : Holds l f) (m : Marked) where
   faults = ap (λ (b : Bool). b || m .faulty) (h .faulty) ∙ sym (faulty-append f m)
 
   -- the byte takes the next cell
-  holds-next : l .len < 64 → Holds (joinedLine l (m .byte) (m .faulty)) (f ++ (m ∷ []))
+  holds-next : l .len < lineLimit → Holds (joinedLine l (m .byte) (m .faulty)) (f ++ (m ∷ []))
   holds-next room =
       let count : l .len ≡ length f = omega (arith, h .len) in
-      let all : take 64 (map byteIn f) ≡ map byteIn f = take-all 64 (map byteIn f) (omega (arith, length-map f byteIn)) in
-      let both : take 64 (map byteIn (f ++ (m ∷ []))) ≡ map byteIn f ++ (m .byte ∷ []) =
-      take-all 64 (map byteIn (f ++ (m ∷ []))) (omega (arith, length-map (f ++ (m ∷ [])) byteIn, more)) ∙ map-append f (m ∷ []) in
+      let all : take lineLimit (map byteIn f) ≡ map byteIn f = take-all lineLimit (map byteIn f) (omega (arith, length-map f byteIn)) in
+      let both : take lineLimit (map byteIn (f ++ (m ∷ []))) ≡ map byteIn f ++ (m .byte ∷ []) =
+      take-all lineLimit (map byteIn (f ++ (m ∷ []))) (omega (arith, length-map (f ++ (m ∷ [])) byteIn, more)) ∙ map-append f (m ∷ []) in
       rw (← next-cell l (m .byte) (m .faulty) room)
       (record {
         cells = length-set (l .bytes) (l .len) (m .byte) ∙ h .cells;
@@ -99,33 +87,33 @@ module _ (l : Line) (f : List Marked) (h : Holds l f) (m : Marked) where
             ∙ ap (λ (t : List ℕ). t ++ (m .byte ∷ [])) (h .content ∙ all)
             ∙ sym both;
         len = omega (arith, more);
-        over = h .over ∙ le-ltb 64 (length f) (omega arith) ∙ sym (le-ltb 64 (length (f ++ (m ∷ []))) (omega (arith, more)));
+        over = h .over ∙ le-ltb lineLimit (length f) (omega arith) ∙ sym (le-ltb lineLimit (length (f ++ (m ∷ []))) (omega (arith, more)));
         faulty = faults;
       })
 
   -- the byte has no cell
-  holds-full : 64 ≤ l .len → Holds (joinedLine l (m .byte) (m .faulty)) (f ++ (m ∷ []))
+  holds-full : lineLimit ≤ l .len → Holds (joinedLine l (m .byte) (m .faulty)) (f ++ (m ∷ []))
   holds-full full =
-      let many : 64 ≤ length f = omega (arith, h .len) in
+      let many : lineLimit ≤ length f = omega (arith, h .len) in
       rw (← no-room l (m .byte) (m .faulty) full)
       (record {
         cells = h .cells;
         content =
             h .content
-            ∙ sym (take-append-le 64 (map byteIn f) (m .byte ∷ []) (omega (arith, length-map f byteIn)))
-            ∙ ap (take 64) (sym (map-append f (m ∷ [])));
+            ∙ sym (take-append-le lineLimit (map byteIn f) (m .byte ∷ []) (omega (arith, length-map f byteIn)))
+            ∙ ap (take lineLimit) (sym (map-append f (m ∷ [])));
         len = omega (arith, h .len, more);
-        over = sym (lt-ltb 64 (length (f ++ (m ∷ []))) (omega (arith, more)));
+        over = sym (lt-ltb lineLimit (length (f ++ (m ∷ []))) (omega (arith, more)));
         faulty = faults;
       })
 
-  joins-by : (room : Bool) → ltb (l .len) 64 ≡ room → Holds (joinedLine l (m .byte) (m .faulty)) (f ++ (m ∷ []))
-  joins-by true e = holds-next (ltb-true (l .len) 64 e)
-  joins-by false e = holds-full (ltb-false (l .len) 64 e)
+  joins-by : (room : Bool) → ltb (l .len) lineLimit ≡ room → Holds (joinedLine l (m .byte) (m .faulty)) (f ++ (m ∷ []))
+  joins-by true e = holds-next (ltb-true (l .len) lineLimit e)
+  joins-by false e = holds-full (ltb-false (l .len) lineLimit e)
 
   -- a byte that joins the cells joins the line
   pub holds-joined : Holds (joinedLine l (m .byte) (m .faulty)) (f ++ (m ∷ []))
-  holds-joined = joins-by (ltb (l .len) 64) refl
+  holds-joined = joins-by (ltb (l .len) lineLimit) refl
 
 -- ---- a byte received
 
@@ -211,13 +199,13 @@ module _ (j : Situation) where
   same-rows faulty over s t (inl e) = rw e
   same-rows faulty over s t (inr e) = rw e
 
-  content-or-over : (f : List Marked) (over : Bool) → ltb 64 (length f) ≡ over → over ≡ true ⊎ take 64 (map byteIn f) ≡ map byteIn f
+  content-or-over : (f : List Marked) (over : Bool) → ltb lineLimit (length f) ≡ over → over ≡ true ⊎ take lineLimit (map byteIn f) ≡ map byteIn f
   content-or-over f true e = inl refl
-  content-or-over f false e = inr (take-all 64 (map byteIn f) (omega (arith, ltb-false 64 (length f) e, length-map f byteIn)))
+  content-or-over f false e = inr (take-all lineLimit (map byteIn f) (omega (arith, ltb-false lineLimit (length f) e, length-map f byteIn)))
 
   -- both judgements are the table over the line's marks and bytes
   tally-judged-by : (f : List Marked)
-      → judgementOf j f ≡ textRows j (anyFaulty f) (ltb 64 (length f)) (map byteIn f)
+      → judgementOf j f ≡ textRows j (anyFaulty f) (ltb lineLimit (length f)) (map byteIn f)
   unfolding textRows judgementOf
   tally-judged-by f = refl
 
@@ -230,5 +218,5 @@ module _ (j : Situation) where
   holds-judged l f h =
       judged-by l
       ∙ rw (h .faulty, h .over, h .content)
-      (same-rows (anyFaulty f) (ltb 64 (length f)) (take 64 (map byteIn f)) (map byteIn f) (content-or-over f (ltb 64 (length f)) refl)
+      (same-rows (anyFaulty f) (ltb lineLimit (length f)) (take lineLimit (map byteIn f)) (map byteIn f) (content-or-over f (ltb lineLimit (length f)) refl)
       ∙ sym (tally-judged-by f))

@@ -13,16 +13,17 @@ use Rattle.answer.specs.Commands.{placeD, placeTA}
 use Rattle.line.specs.declared.judge.Situation.{Situation}
 use Rattle.line.specs.declared.judge.Verdict.{Verdict}
 use Rattle.line.specs.declared.judge.Verdict.the-variants.{Wrong, Preset, Show}
-use Rattle.line.specs.Judging.{afterSpace, hasSpace, isPrintable, isShown, betweenQuotes, isQuoted, isPreset}
+use Rattle.text.specs.Printable.{isPrintable}
+use Rattle.line.specs.Judging.{isShown, betweenQuotes, isQuoted, isPreset}
 use Rattle.line.specs.Parts.{showRule, amountRule, presetRule}
-use Rattle.weight.specs.declared.typed.Tare.{Tare}
-use Rattle.weight.specs.declared.typed.Typed.{Typed}
-use Rattle.weight.specs.declared.typed.Typed.the-variants.{Amount, TooLarge, NotTyped}
-use Rattle.weight.specs.Ascii.{space}
+use Rattle.weight.specs.declared.amount.Tare.{Tare}
+use Rattle.weight.specs.declared.amount.Typed.{Typed}
+use Rattle.weight.specs.declared.amount.Typed.the-variants.{Amount, TooLarge, NotTyped}
+use Rattle.weight.specs.Characters.{space}
 use Rattle.text.specs.Ascii.{sameText}
-use Rattle.text.specs.Searching.{FirstAt}
+use Rattle.text.specs.Searching.{FirstAt, afterSpace, hasSpace}
 use Rattle.text.proofs.Searching.{rest-is}
-use Rattle.text.specs.Units.{unitText}
+use Rattle.text.specs.UnitTexts.{unitText}
 use Rattle.text.specs.Typed.{readTyped}
 
 -- ---- D

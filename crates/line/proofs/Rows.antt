@@ -14,12 +14,12 @@ use Rattle.answer.specs.Commands.{commandCount, names, needsSample, placeD, pla
 use Rattle.line.specs.declared.receive.Line.{Line}
 use Rattle.line.specs.declared.judge.Situation.{Situation}
 use Rattle.line.specs.declared.judge.Verdict.{Verdict}
-use Rattle.line.specs.declared.judge.Verdict.the-variants.{Refused, Reset, Busy, Wrong, NoSample, Run, Preset, Show}
-use Rattle.line.specs.Receiving.{contentOf}
-use Rattle.line.specs.Judging.{afterSpace, hasSpace, hasControl, commandIn, isQuoted, typedIn, amountIn, isPreset, isWrong, ownRule, judgement}
+use Rattle.line.specs.declared.judge.Verdict.the-variants.{Erroneous, Reset, Busy, Wrong, NoSample, Run, Preset, Show}
+use Rattle.line.specs.Receiving.{contentOf, lineLimit}
+use Rattle.line.specs.Judging.{hasControl, commandIn, isQuoted, typedIn, amountIn, isPreset, isWrong, ownRule, judgement}
 use Rattle.line.specs.Parts.{showRule, presetRule, lastRows, textRows}
-use Rattle.weight.specs.Ascii.{space}
-use Rattle.text.specs.Searching.{FirstAt}
+use Rattle.weight.specs.Characters.{space}
+use Rattle.text.specs.Searching.{FirstAt, afterSpace, hasSpace}
 use Rattle.text.proofs.Searching.{rest-is}
 
 -- ---- rows 6 to 8
@@ -73,7 +73,7 @@ module _ (j : Situation) (c : ℕ) (t : List ℕ) (i : ℕ) (at : FirstAt space 
 -- ---- the whole table
 
 module _ (j : Situation) (faulty over : Bool) (t : List ℕ) where
-  pub row-1 : faulty ≡ true → Refused Transmission ≡ textRows j faulty over t
+  pub row-1 : faulty ≡ true → Erroneous Transmission ≡ textRows j faulty over t
   unfolding textRows
   row-1 e = rw e
 
@@ -86,7 +86,7 @@ module _ (j : Situation) (faulty over : Bool) (t : List ℕ) where
       unknown : (over || hasControl t || leb (length names) (commandIn t)) ≡ (over || control || leb commandCount c)
       unknown = rw (named, sym scanned)
 
-      pub row-2 : (over || control || leb commandCount c) ≡ true → Refused Syntax ≡ textRows j faulty over t
+      pub row-2 : (over || control || leb commandCount c) ≡ true → Erroneous Syntax ≡ textRows j faulty over t
       unfolding textRows
       row-2 e = rw (good, unknown ∙ e)
 
@@ -94,7 +94,7 @@ module _ (j : Situation) (faulty over : Bool) (t : List ℕ) where
         extra : (hasSpace t && not (takesParameters (commandIn t))) ≡ (ltb i (length t) && not takes)
         extra = rw (sym (at .has), named, sym asked)
 
-        pub row-3 : (ltb i (length t) && not takes) ≡ true → Refused Logical ≡ textRows j faulty over t
+        pub row-3 : (ltb i (length t) && not takes) ≡ true → Erroneous Logical ≡ textRows j faulty over t
         unfolding textRows
         row-3 e = rw (good, unknown ∙ known, extra ∙ e)
 
@@ -121,7 +121,7 @@ held-by b k n true e h =
     rw f
 held-by b k n false e h = rw (take-all (min k n) b (omega (arith, leb-false n k e)), take-all n b (omega (arith, leb-false n k e)))
 
-module _ (l : Line) (cells : length (l .bytes) ≡ 64) {n : ℕ} (counted : n ≡ min 64 (l .len)) where
+module _ (l : Line) (cells : length (l .bytes) ≡ lineLimit) {n : ℕ} (counted : n ≡ min lineLimit (l .len)) where
   pub in-cells : n ≤ length (l .bytes)
   in-cells = omega arith
 
@@ -132,5 +132,5 @@ module _ (l : Line) (cells : length (l .bytes) ≡ 64) {n : ℕ} (counted : n �
       → r ≡ textRows j (l .faulty) (l .over) (take n (l .bytes)) → r ≡ judgement j l
   unfolding textRows judgement
   judged j f =
-      let same : take n (l .bytes) ≡ contentOf l = rw counted (held-by (l .bytes) 64 (l .len) (leb (l .len) 64) refl (omega arith)) in
+      let same : take n (l .bytes) ≡ contentOf l = rw counted (held-by (l .bytes) lineLimit (l .len) (leb (l .len) lineLimit) refl (omega arith)) in
       f ∙ ap (λ (t : List ℕ). textRows j (l .faulty) (l .over) t) same

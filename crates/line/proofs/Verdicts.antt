@@ -15,18 +15,20 @@ use Rattle.answer.proofs.Names.{found-name}
 use Rattle.line.specs.declared.receive.Line.{Line}
 use Rattle.line.specs.declared.judge.Situation.{Situation}
 use Rattle.line.specs.declared.judge.Verdict.{Verdict}
-use Rattle.line.specs.declared.judge.Verdict.the-variants.{Refused, Reset, Busy, Wrong, NoSample, Run, Preset, Show}
-use Rattle.line.specs.Judging.{beforeSpace, afterSpace, hasSpace, hasControl, commandIn, isPrintable, isShown, betweenQuotes, isQuoted, typedIn, presetOf, amountIn, isPreset, isWrong, ownRule, firstRow, judgement}
-use Rattle.line.specs.Receiving.{contentOf}
+use Rattle.line.specs.declared.judge.Verdict.the-variants.{Erroneous, Reset, Busy, Wrong, NoSample, Run, Preset, Show}
+use Rattle.text.specs.Searching.{beforeSpace, afterSpace, hasSpace}
+use Rattle.text.specs.Printable.{isPrintable}
+use Rattle.line.specs.Judging.{hasControl, commandIn, isShown, betweenQuotes, isQuoted, typedIn, presetOf, amountIn, isPreset, isWrong, ownRule, firstRow, judgement}
+use Rattle.line.specs.Receiving.{contentOf, lineLimit}
 use Rattle.line.specs.Unbounded.{Marked, byteIn, anyFaulty, judgementOf}
 use Rattle.line.proofs.Kept.{Holds}
 use Rattle.line.proofs.Parameters.{Between, shown-between}
-use Rattle.weight.specs.declared.typed.Tare.{Tare}
-use Rattle.weight.specs.declared.typed.Typed.{Typed}
-use Rattle.weight.specs.declared.typed.Typed.the-variants.{Amount, TooLarge, NotTyped}
-use Rattle.weight.specs.Ascii.{space}
+use Rattle.weight.specs.declared.amount.Tare.{Tare}
+use Rattle.weight.specs.declared.amount.Typed.{Typed}
+use Rattle.weight.specs.declared.amount.Typed.the-variants.{Amount, TooLarge, NotTyped}
+use Rattle.weight.specs.Characters.{space}
 use Rattle.text.specs.Ascii.{ascii, sameText}
-use Rattle.text.specs.Units.{unitText}
+use Rattle.text.specs.UnitTexts.{unitText}
 use Rattle.text.specs.Typed.{readTyped}
 use Rattle.weight.proofs.Allowed.{both-right, neither-left, neither-right}
 use Rattle.text.proofs.Named.{same-is}
@@ -39,7 +41,7 @@ never e = absurd (omega arith)
 
 -- a verdict of row 8
 abbrev isOwn : Verdict → Bool
-isOwn (Refused e) = false
+isOwn (Erroneous e) = false
 isOwn Reset = false
 isOwn (Busy c) = false
 isOwn (Wrong c) = false
@@ -100,7 +102,7 @@ row-8 false false false false false false false c own v o e =
 
 -- rows 5 to 7: the command that is not carried out, and the row's test
 abbrev isKept : Verdict → Bool
-isKept (Refused e) = false
+isKept (Erroneous e) = false
 isKept Reset = false
 isKept (Busy c) = true
 isKept (Wrong c) = true
@@ -110,7 +112,7 @@ isKept (Preset m) = false
 isKept (Show n) = false
 
 abbrev keptFrom : Verdict → ℕ
-keptFrom (Refused e) = 0
+keptFrom (Erroneous e) = 0
 keptFrom Reset = 0
 keptFrom (Busy c) = c
 keptFrom (Wrong c) = c
@@ -120,7 +122,7 @@ keptFrom (Preset m) = 0
 keptFrom (Show n) = 0
 
 abbrev keptBy : Verdict → Bool → Bool → Bool → Bool
-keptBy (Refused e) w g n = false
+keptBy (Erroneous e) w g n = false
 keptBy Reset w g n = false
 keptBy (Busy c) w g n = w
 keptBy (Wrong c) w g n = g
@@ -130,7 +132,7 @@ keptBy (Preset m) w g n = false
 keptBy (Show n′) w g n = false
 
 own-not-kept : (v : Verdict) → isOwn v ≡ true → isKept v ≡ false
-own-not-kept (Refused e) o = never (cc)
+own-not-kept (Erroneous e) o = never (cc)
 own-not-kept Reset o = never (cc)
 own-not-kept (Busy c) o = never (cc)
 own-not-kept (Wrong c) o = never (cc)
@@ -215,7 +217,7 @@ pub record PresetLine (j : Situation) (f : List Marked) (m : Tare) : Type 0 wher
 -- a line judged to D with a text of n bytes, from its fourth on
 pub record ShowLine (j : Situation) (f : List Marked) (n : ℕ) : Type 0 where
   pub line : GoodLine f (ascii "D " ++ parameterIn f)
-  pub in-cells : length f ≤ 64
+  pub in-cells : length f ≤ lineLimit
   pub text : betweenQuotes (parameterIn f) ≡ take n (drop 3 (map byteIn f))
   pub shown : isShown (betweenQuotes (parameterIn f)) ≡ true
   pub count : length (betweenQuotes (parameterIn f)) ≡ n
@@ -231,21 +233,21 @@ pub record Shown (l : Line) (n : ℕ) : Type 0 where
 -- a good line of at most 64 bytes that begins with a name
 record Begins (f : List Marked) : Type 0 where
   good : anyFaulty f ≡ false
-  in-cells : length f ≤ 64
+  in-cells : length f ≤ lineLimit
   a-name : commandIn (map byteIn f) < commandCount
   alone : (hasSpace (map byteIn f) && not (takesParameters (commandIn (map byteIn f)))) ≡ false
 
 begins : (f : List Marked)
-    → Known (anyFaulty f) (ltb 64 (length f) || hasControl (map byteIn f) || leb (length names) (commandIn (map byteIn f)))
+    → Known (anyFaulty f) (ltb lineLimit (length f) || hasControl (map byteIn f) || leb (length names) (commandIn (map byteIn f)))
     (hasSpace (map byteIn f) && not (takesParameters (commandIn (map byteIn f)))) → Begins f
 begins f k =
-    let few = neither-left (ltb 64 (length f) || hasControl (map byteIn f)) (leb (length names) (commandIn (map byteIn f))) (k .named) in
+    let few = neither-left (ltb lineLimit (length f) || hasControl (map byteIn f)) (leb (length names) (commandIn (map byteIn f))) (k .named) in
     record {
       good = k .good;
-      in-cells = ltb-false 64 (length f) (neither-left (ltb 64 (length f)) (hasControl (map byteIn f)) few);
+      in-cells = ltb-false lineLimit (length f) (neither-left (ltb lineLimit (length f)) (hasControl (map byteIn f)) few);
       a-name =
           leb-false commandCount (commandIn (map byteIn f))
-          (neither-right (ltb 64 (length f) || hasControl (map byteIn f)) (leb (length names) (commandIn (map byteIn f))) (k .named));
+          (neither-right (ltb lineLimit (length f) || hasControl (map byteIn f)) (leb (length names) (commandIn (map byteIn f))) (k .named));
       alone = k .alone;
     }
 
@@ -319,7 +321,7 @@ module _ (j : Situation) (f : List Marked) where
   pub reset-line : judgementOf j f ≡ Reset → GoodLine f (ascii "@")
   unfolding judgementOf
   reset-line e =
-      let row = row-4 (anyFaulty f) (ltb 64 (length f) || hasControl (map byteIn f) || leb (length names) c)
+      let row = row-4 (anyFaulty f) (ltb lineLimit (length f) || hasControl (map byteIn f) || leb (length names) c)
       (hasSpace (map byteIn f) && not (takesParameters c)) (isReset c) (j .waiting) wrong (needsSample c && not (j .sampled)) c own
       (own-is j c (map byteIn f)) e in
       let b : Begins f = begins f (row .0) in
@@ -335,11 +337,11 @@ module _ (j : Situation) (f : List Marked) where
       rw (g .good, g .bytes, one)
 
   last : {v : Verdict} → isOwn v ≡ true → judgementOf j f ≡ v
-      → Last (anyFaulty f) (ltb 64 (length f) || hasControl (map byteIn f) || leb (length names) c) (hasSpace (map byteIn f) && not (takesParameters c))
+      → Last (anyFaulty f) (ltb lineLimit (length f) || hasControl (map byteIn f) || leb (length names) c) (hasSpace (map byteIn f) && not (takesParameters c))
       (isReset c) (j .waiting) wrong (needsSample c && not (j .sampled)) own v
   unfolding judgementOf
   last {v} o e =
-      row-8 (anyFaulty f) (ltb 64 (length f) || hasControl (map byteIn f) || leb (length names) c)
+      row-8 (anyFaulty f) (ltb lineLimit (length f) || hasControl (map byteIn f) || leb (length names) c)
       (hasSpace (map byteIn f) && not (takesParameters c)) (isReset c) (j .waiting) wrong (needsSample c && not (j .sampled)) c own v o e
 
   -- ---- the command alone
@@ -414,7 +416,7 @@ module _ (j : Situation) (f : List Marked) where
       → KeptLine f (keptFrom v) × (keptBy v (j .waiting) wrong (needsSample c && not (j .sampled)) ≡ true)
   unfolding judgementOf
   kept {v} k e =
-      let row = rows-5-to-7 (anyFaulty f) (ltb 64 (length f) || hasControl (map byteIn f) || leb (length names) c)
+      let row = rows-5-to-7 (anyFaulty f) (ltb lineLimit (length f) || hasControl (map byteIn f) || leb (length names) c)
       (hasSpace (map byteIn f) && not (takesParameters c)) (isReset c) (j .waiting) wrong (needsSample c && not (j .sampled)) c own v
       (own-is j c (map byteIn f)) k e in
       let b : Begins f = begins f (row .known) in (
@@ -472,7 +474,7 @@ show-cells j l f n held h =
     let same : take n (drop 3 (l .bytes)) ≡ betweenQuotes (parameterIn f) =
     sym (part-of-front n 3 (l .len) (l .bytes) (omega (arith, held .len, h .short)))
     ∙ ap (λ (t : List ℕ). take n (drop 3 t)) (held .content)
-    ∙ part-of-front n 3 64 (map byteIn f) (omega (arith, h .short))
+    ∙ part-of-front n 3 lineLimit (map byteIn f) (omega (arith, h .short))
     ∙ sym (h .text)
     in
     record {

@@ -1,7 +1,7 @@
 -- Document 01, "Receiving": the table of a finished line, its rows in the paper's order, and the parameters of D and TA.
 -- Assumes nothing.
 use Prim.Native.Nat.{ℕ, _-_}
-use mathlib.Core.Bool.{Bool, true, false, cond, not, _&&_, _||_}
+use mathlib.Core.Bool.{Bool, false, cond, not, _&&_, _||_}
 use mathlib.Core.List.{List, [], _∷_}
 use lib.Dec.{leb, ltb, eqb}
 use lib.ListN.{length, getD, take, drop}
@@ -10,29 +10,17 @@ use Rattle.answer.specs.Commands.{names, placeOf, isD, isReset, isTA, takesPara
 use Rattle.line.specs.declared.receive.Line.{Line}
 use Rattle.line.specs.declared.judge.Situation.{Situation}
 use Rattle.line.specs.declared.judge.Verdict.{Verdict}
-use Rattle.line.specs.declared.judge.Verdict.the-variants.{Refused, Reset, Busy, Wrong, NoSample, Run, Preset, Show}
+use Rattle.line.specs.declared.judge.Verdict.the-variants.{Erroneous, Reset, Busy, Wrong, NoSample, Run, Preset, Show}
 use Rattle.line.specs.Receiving.{contentOf}
-use Rattle.weight.specs.declared.typed.Tare.{Tare}
-use Rattle.weight.specs.declared.typed.Typed.{Typed}
-use Rattle.weight.specs.declared.typed.Typed.the-variants.{Amount, TooLarge, NotTyped}
-use Rattle.weight.specs.Ascii.{space}
+use Rattle.weight.specs.declared.amount.Tare.{Tare}
+use Rattle.weight.specs.declared.amount.Typed.{Typed}
+use Rattle.weight.specs.declared.amount.Typed.the-variants.{Amount, TooLarge, NotTyped}
+use Rattle.weight.specs.Characters.{quote}
 use Rattle.text.specs.Ascii.{sameText}
-use Rattle.text.specs.Searching.{beforeFirst, afterFirst, hasByte}
-use Rattle.text.specs.Units.{unitText}
+use Rattle.text.specs.Printable.{isPrintable}
+use Rattle.text.specs.Searching.{beforeSpace, afterSpace, hasSpace}
+use Rattle.text.specs.UnitTexts.{unitText}
 use Rattle.text.specs.Typed.{readTyped}
-
--- ---- a line's parts
-
--- the bytes before the first space, all of them where there is none
-abbrev pub beforeSpace : List ℕ → List ℕ
-beforeSpace t = beforeFirst space t
-
--- the bytes after the first space
-abbrev pub afterSpace : List ℕ → List ℕ
-afterSpace t = afterFirst space t
-
-abbrev pub hasSpace : List ℕ → Bool
-hasSpace t = hasByte space t
 
 -- a byte below 32
 abbrev pub hasControl : List ℕ → Bool
@@ -44,11 +32,6 @@ unfoldable pub commandIn : List ℕ → ℕ
 commandIn t = placeOf (beforeSpace t)
 
 -- ---- parameters
-
--- bytes 32 to 255 without 34
-abbrev pub isPrintable : List ℕ → Bool
-isPrintable [] = true
-isPrintable (c ∷ t) = (leb 32 c && not (eqb c 34)) && isPrintable t
 
 -- what D shows: 0 to 20 bytes, 32 to 255 without 34
 abbrev pub isShown : List ℕ → Bool
@@ -62,7 +45,7 @@ betweenQuotes p = take (length p - 2) (drop 1 p)
 unfoldable pub isQuoted : List ℕ → Bool
 isQuoted p =
     leb 2 (length p)
-    && (eqb (getD p 0 0) 34 && eqb (getD p (length p - 1) 0) 34)
+    && (eqb (getD p 0 0) quote && eqb (getD p (length p - 1) 0) quote)
     && isShown (betweenQuotes p)
 
 -- the micrograms of a typed number, where it is one that C allows
@@ -106,9 +89,9 @@ ownRule j c t =
 -- the first row that applies
 abbrev pub firstRow : Bool → Bool → Bool → Bool → Bool → Bool → Bool → ℕ → Verdict → Verdict
 firstRow faulty unknown extra reset waiting wrong missing c own =
-    cond faulty (Refused Transmission)
-    (cond unknown (Refused Syntax)
-    (cond extra (Refused Logical)
+    cond faulty (Erroneous Transmission)
+    (cond unknown (Erroneous Syntax)
+    (cond extra (Erroneous Logical)
     (cond reset Reset
     (cond waiting (Busy c)
     (cond wrong (Wrong c)

@@ -9,7 +9,7 @@ use Rattle.line.specs.declared.judge.Situation.{Situation}
 use Rattle.line.specs.declared.judge.Verdict.{Verdict}
 use Rattle.line.specs.declared.judge.Verdict.the-variants.{Wrong, NoSample, Preset, Show}
 use Rattle.line.specs.Judging.{isQuoted, typedIn, presetOf, amountIn, isPreset, isWrong, table, ownRule}
-use Rattle.weight.specs.declared.typed.Typed.{Typed}
+use Rattle.weight.specs.declared.amount.Typed.{Typed}
 
 -- rows 6 to 8 of D with the parameter p
 unfoldable pub showRule : List ℕ → Verdict

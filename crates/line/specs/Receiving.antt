@@ -27,7 +27,7 @@ abbrev pub clearedLine : Line → Line
 clearedLine l = record { bytes = l .bytes; len = 0; over = false; faulty = false; returned = false }
 
 abbrev pub emptyLine : Line
-emptyLine = record { bytes = replicate 64 0; len = 0; over = false; faulty = false; returned = false }
+emptyLine = record { bytes = replicate lineLimit 0; len = 0; over = false; faulty = false; returned = false }
 
 -- a byte, faulty or not, is part of the line
 unfoldable pub joinedLine : Line → ℕ → Bool → Line

@@ -2,14 +2,15 @@
 ghost use mathlib.Core.Path.{_≡_};
 ghost use mathlib.Core.Bool.{not, _&&_};
 ghost use Prim.Native.Nat.{min};
-ghost use Rattle.answer.specs.Commands.{takesParameters, needsSample};
+ghost use Rattle.answer.specs.Commands.{needsSample};
 ghost use Rattle.line.specs.Judging.{judgement};
 ghost use Rattle.line.specs.Receiving.{lineLimit};
 ghost use Rattle.line.specs.Parts.{lastRows, textRows};
-ghost use Rattle.weight.specs.Ascii.{space};
+ghost use Rattle.weight.specs.Characters.{space};
 ghost use Rattle.text.specs.Searching.{FirstAt};
 use crate::parameter::preset_rule;
 use crate::parameter::show_rule;
+use crate::receive::LINE_LIMIT;
 use crate::receive::Line;
 use crate::scan::has_control;
 use answer::D;
@@ -33,7 +34,7 @@ pub struct Situation {
 }
 
 pub enum Verdict {
-    Refused(Error),
+    Erroneous(Error),
     Reset,
     // A command is waiting; no such parameter; no sample yet. Each with the command's place.
     Busy(u8),
@@ -47,7 +48,7 @@ pub enum Verdict {
     Show(u8),
 }
 
-const LINE_LIMIT: usize = 64;
+const CELLS: usize = LINE_LIMIT as usize;
 
 // Whether the command asks for a sample and there is none.
 fn lacks_sample(situation: Situation, command: u8) -> bool
@@ -89,13 +90,13 @@ fn judge_text(situation: Situation, faulty: bool, over: bool, text: &[u8]) -> Ve
     let unknown = over | has_control(text) | (NONE <= command);
     let extra = (end < text.len()) & !takes_parameters(command);
     if faulty {
-        return Verdict::Refused(Error::Transmission);
+        return Verdict::Erroneous(Error::Transmission);
     }
     if unknown {
-        return Verdict::Refused(Error::Syntax);
+        return Verdict::Erroneous(Error::Syntax);
     }
     if extra {
-        return Verdict::Refused(Error::Logical);
+        return Verdict::Erroneous(Error::Logical);
     }
     if command == RESET {
         return Verdict::Reset;
@@ -111,8 +112,8 @@ fn cells_held(len: u8) -> usize
     ensures { λ r. ⌜ r ≡ min lineLimit len ⌝ }
 {
     let n = len as usize;
-    if LINE_LIMIT < n {
-        return LINE_LIMIT;
+    if CELLS < n {
+        return CELLS;
     }
     n
 }

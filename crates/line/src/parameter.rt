@@ -4,16 +4,14 @@ ghost use Rattle.line.specs.Judging.{isShown, isQuoted};
 ghost use Rattle.line.specs.Parts.{showRule, amountRule, presetRule};
 use crate::judge::Situation;
 use crate::judge::Verdict;
-use crate::scan::is_printable;
 use answer::D;
 use answer::TA;
 use text::first_at;
+use text::is_printable;
 use text::is_unit;
 use text::read_typed;
 use weight::Typed;
 use weight::is_tare_within;
-
-const QUOTE: u8 = 34;
 
 const LONGEST_SHOWN: usize = 20;
 
@@ -35,7 +33,7 @@ fn is_quoted(text: &[u8]) -> bool
         return false;
     }
     let last = text.len() - 1;
-    let quotes = (text[0] == QUOTE) & (text[last] == QUOTE);
+    let quotes = (text[0] == b'"') & (text[last] == b'"');
     quotes & is_shown(&text[1..last])
 }
 

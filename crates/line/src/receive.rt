@@ -21,7 +21,8 @@ pub struct Received {
     pub line: Line,
 }
 
-const LINE_LIMIT: u8 = 64;
+// The bytes that a line holds at most.
+pub const LINE_LIMIT: u8 = 64;
 
 const CARRIAGE_RETURN: u8 = 13;
 

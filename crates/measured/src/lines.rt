@@ -69,7 +69,7 @@ fn digest_of(answer: Answer, len: usize) -> Digest {
                 value: places.0,
             }
         }
-        Answer::Refused(error) => match error {
+        Answer::ErrorLine(error) => match error {
             Error::Syntax => simple(3, 0, 0, len),
             Error::Transmission => simple(3, 1, 0, len),
             Error::Logical => simple(3, 2, 0, len),

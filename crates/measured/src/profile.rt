@@ -80,6 +80,6 @@ pub(crate) fn profile_at(profiles: &[u8], n: u32) -> Profile {
         model: text40(bytes, 19),
         software: text40(bytes, 60),
         serial: text20(bytes, 101),
-        identity: text20(bytes, 122),
+        release: text20(bytes, 122),
     }
 }

@@ -7,7 +7,7 @@ use native.Mathlib.Omega.{arith}
 use borrow.Author.Tests.{le-leb}
 use lib.IntN.{ℤ, pos, negℤ, natAbs}
 use lib.Signed.{leZ}
-use Rattle.weight.specs.Field.{fitsField}
+use Rattle.weight.specs.Places.{fitsField}
 use Rattle.weight.specs.Printing.{printable}
 use Rattle.weight.specs.Rounding.{netLimit, placesOf}
 use Rattle.weight.proofs.EveryNet.{every-net-fits}

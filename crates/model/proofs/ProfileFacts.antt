@@ -8,7 +8,7 @@ use native.Mathlib.Omega.{arith}
 use borrow.Author.Tests.{leb-true}
 use lib.Dec.{leb}
 use lib.ListN.{length, take, length-take}
-use Rattle.line.specs.Judging.{isPrintable}
+use Rattle.text.specs.Printable.{isPrintable}
 use Rattle.weight.specs.Rounding.{allowedResolution}
 use Rattle.weight.proofs.Allowed.{both-left, both-right}
 use Rattle.model.specs.declared.profile.Profile.{Profile}
@@ -62,7 +62,7 @@ pub record AllowedProfile (p : Profile) : Type 0 where
   pub model : textAllowed40 (p .model) ≡ true
   pub software : textAllowed40 (p .software) ≡ true
   pub serial : textAllowed20 (p .serial) ≡ true
-  pub identity : textAllowed20 (p .identity) ≡ true
+  pub release : textAllowed20 (p .release) ≡ true
 
 -- they hold where the profile's test does
 pub allowed-profile : (p : Profile) → profileAllowed p ≡ true → AllowedProfile p
@@ -71,7 +71,7 @@ allowed-profile p h =
     let lines : Four (limitsAllowed p) (allowedResolution (p .resolution)) (netsAllowed p) (textsAllowed p) =
     four (limitsAllowed p) (allowedResolution (p .resolution)) (netsAllowed p) (textsAllowed p) h in
     let long = textAllowed40 (p .model) && textAllowed40 (p .software) in
-    let short = textAllowed20 (p .serial) && textAllowed20 (p .identity) in
+    let short = textAllowed20 (p .serial) && textAllowed20 (p .release) in
     let longs = both-left long short (lines .fourth) in
     let shorts = both-right long short (lines .fourth) in
     record {
@@ -80,8 +80,8 @@ allowed-profile p h =
       nets = lines .third;
       model = both-left (textAllowed40 (p .model)) (textAllowed40 (p .software)) longs;
       software = both-right (textAllowed40 (p .model)) (textAllowed40 (p .software)) longs;
-      serial = both-left (textAllowed20 (p .serial)) (textAllowed20 (p .identity)) shorts;
-      identity = both-right (textAllowed20 (p .serial)) (textAllowed20 (p .identity)) shorts;
+      serial = both-left (textAllowed20 (p .serial)) (textAllowed20 (p .release)) shorts;
+      release = both-right (textAllowed20 (p .serial)) (textAllowed20 (p .release)) shorts;
     }
 
 -- a text that is allowed is not longer than its limit

@@ -8,6 +8,7 @@ use borrow.Author.Tests.{leb-true, ltb-true, le-leb}
 use lib.Dec.{ltb}
 use lib.IntN.{pos, negℤ}
 use lib.Signed.{leZ}
+use Rattle.line.specs.Receiving.{lineLimit}
 use Rattle.weight.proofs.Allowed.{both-left, both-right}
 use Rattle.model.specs.declared.profile.Profile.{Profile}
 use Rattle.model.specs.declared.state.State.{State}
@@ -54,7 +55,7 @@ tests-allow p s h =
 -- what the cases above know of it; zero's range is only kept
 pub record AllowedState (p : Profile) (s : State) : Type 0 where
   pub tare : s .weighing .tare .0 ≤ p .capacity
-  pub line : s .line .len ≤ 64
+  pub line : s .line .len ≤ lineLimit
   pub display : s .display .shown ≡ true → textAllowed20 (s .display .text) ≡ true
   pub waiting : isPending (s .waiting .pending) ≡ true → s .waiting .unstable < p .timeout
   pub repeating : s .repeating ≡ true → s .weighing .sampled ≡ true

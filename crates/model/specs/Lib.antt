@@ -1,3 +1,4 @@
+pub mod Groups
 pub mod Profiles
 pub mod Refusals
 pub mod States

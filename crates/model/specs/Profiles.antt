@@ -3,15 +3,16 @@
 use Prim.Native.Nat.{ℕ, _+_}
 use mathlib.Core.Bool.{Bool, cond, _&&_}
 use mathlib.Core.List.{List, []}
-use lib.Dec.{leb, eqb}
+use lib.Dec.{leb}
 use lib.IntN.{pos, negℤ}
 use lib.ListN.{take}
+use Rattle.answer.specs.Commands.{isI2, isI3, isI4, isI5}
 use Rattle.model.specs.declared.profile.Text20.{Text20}
 use Rattle.model.specs.declared.profile.Text40.{Text40}
 use Rattle.model.specs.declared.profile.Profile.{Profile}
-use Rattle.line.specs.Judging.{isPrintable}
+use Rattle.text.specs.Printable.{isPrintable}
 use Rattle.weight.specs.Rounding.{allowedResolution, placesOf}
-use Rattle.weight.specs.Field.{fitsField}
+use Rattle.weight.specs.Places.{fitsField}
 
 abbrev pub textOf20 : Text20 → List ℕ
 textOf20 t = take (t .len) (t .bytes)
@@ -50,7 +51,7 @@ textAllowed40 t = leb (t .len) 40 && isPrintable (textOf40 t)
 
 abbrev pub textsAllowed : Profile → Bool
 textsAllowed p =
-    (textAllowed40 (p .model) && textAllowed40 (p .software)) && (textAllowed20 (p .serial) && textAllowed20 (p .identity))
+    (textAllowed40 (p .model) && textAllowed40 (p .software)) && (textAllowed20 (p .serial) && textAllowed20 (p .release))
 
 -- the lines of "The profile", one after another; unit, decimals and step are those of the resolution
 unfoldable pub profileAllowed : Profile → Bool
@@ -64,9 +65,9 @@ profileAllowed p =
     && textsAllowed p
 
 -- the text that goes with I2 to I5
-abbrev pub identityText : Profile → ℕ → List ℕ
-identityText p c =
-    cond (eqb c 2) (textOf40 (p .model))
-    (cond (eqb c 3) (textOf40 (p .software))
-    (cond (eqb c 4) (textOf20 (p .serial))
-    (cond (eqb c 5) (textOf20 (p .identity)) [])))
+abbrev pub informationText : Profile → ℕ → List ℕ
+informationText p c =
+    cond (isI2 c) (textOf40 (p .model))
+    (cond (isI3 c) (textOf40 (p .software))
+    (cond (isI4 c) (textOf20 (p .serial))
+    (cond (isI5 c) (textOf20 (p .release)) [])))

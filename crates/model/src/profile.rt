@@ -4,10 +4,10 @@ ghost use mathlib.Core.Bool.{_&&_};
 ghost use Prim.Native.Nat.{_≤_};
 ghost use lib.Dec.{leb};
 ghost use lib.ListN.{length, take};
-ghost use Rattle.line.specs.Judging.{isPrintable};
+ghost use Rattle.text.specs.Printable.{isPrintable};
 ghost use Rattle.weight.specs.Rounding.{allowedResolution};
 ghost use Rattle.model.specs.Profiles.{capacityAllowed, underloadAllowed, zeroRangeAllowed, timeoutAllowed, netsAllowed, textAllowed20, textsAllowed, profileAllowed};
-use line::is_printable;
+use text::is_printable;
 use weight::Resolution;
 use weight::fits_below_zero;
 
@@ -29,11 +29,11 @@ pub struct Profile {
     pub zeroing: u32,
     pub timeout: u32,
     pub resolution: Resolution,
-    // The texts of I2, I3, I4 and I5.
+    // The texts of I2, I3, I4 and I5; the last is the identification number of the software release.
     pub model: Text40,
     pub software: Text40,
     pub serial: Text20,
-    pub identity: Text20,
+    pub release: Text20,
 }
 
 // Whether there are `len` bytes, 32 to 255 without 34.
@@ -58,8 +58,8 @@ fn are_texts_allowed(profile: Profile) -> bool
     ensures { λ r. ⌜ r ≡ textsAllowed profile ⌝ }
 {
     let serial = profile.serial;
-    let identity = profile.identity;
-    let short = is_text_allowed20(serial) & is_text_allowed20(identity);
+    let release = profile.release;
+    let short = is_text_allowed20(serial) & is_text_allowed20(release);
     let model = profile.model.bytes;
     let software = profile.software.bytes;
     let long = is_text_allowed(&model, profile.model.len)

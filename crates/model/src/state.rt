@@ -7,6 +7,7 @@ use crate::profile::Profile;
 use crate::profile::Text20;
 use crate::profile::is_text_allowed20;
 use crate::weighing::Weighing;
+use line::LINE_LIMIT;
 use line::Line;
 use weight::NO_LOAD;
 use weight::NO_TARE;
@@ -42,9 +43,6 @@ pub struct State {
     pub repeating: bool,
     pub display: Display,
 }
-
-// The bytes that a line holds at most.
-const LINE_LIMIT: u8 = 64;
 
 pub fn is_pending(pending: Pending) -> bool
     ensures { λ r. ⌜ r ≡ isPending pending ⌝ }

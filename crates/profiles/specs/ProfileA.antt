@@ -7,7 +7,7 @@ use Rattle.model.specs.declared.profile.Text20.{Text20}
 use Rattle.model.specs.declared.profile.Text40.{Text40}
 use Rattle.weight.specs.declared.rounding.Resolution.{Resolution}
 use Rattle.weight.specs.declared.units.WeightUnit.the-variants.{G}
-use Rattle.weight.specs.Ascii.{space}
+use Rattle.weight.specs.Characters.{space}
 use Rattle.text.specs.Ascii.{ascii}
 
 abbrev pub noText40 : Text40
@@ -32,7 +32,7 @@ profileWith r =
       model = noText40;
       software = noText40;
       serial = serialA;
-      identity = noText20;
+      release = noText20;
     }
 
 -- g, d 4, k 1

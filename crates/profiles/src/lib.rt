@@ -46,6 +46,6 @@ pub fn profile_a() -> Profile
         model: no_text(),
         software: no_text(),
         serial: serial(),
-        identity: short_text(),
+        release: short_text(),
     }
 }

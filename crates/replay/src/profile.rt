@@ -53,7 +53,7 @@ pub fn with_text(profile: Profile, line: &[u8]) -> Profile {
         b'2' => next.model = text40(text),
         b'3' => next.software = text40(text),
         b'4' => next.serial = text20(text),
-        b'5' => next.identity = text20(text),
+        b'5' => next.release = text20(text),
         _ => {}
     }
     next

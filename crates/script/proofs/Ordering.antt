@@ -7,7 +7,7 @@ use Prim.Native.Nat.{ℕ, _+_, _/_, _≤_, _<_}
 use lib.Dec.{leb, ltb, eqb}
 use lib.ListN.{length, getD, drop}
 use borrow.Author.Tests.{eq-eqb, ne-eqb, lt-ltb, le-ltb}
-use Rattle.weight.specs.Ascii.{space}
+use Rattle.weight.specs.Characters.{space}
 use Rattle.text.specs.Ascii.{ascii, sameText}
 use Rattle.text.specs.Searching.{FirstAt}
 use Rattle.script.specs.declared.number.LoadRead.{LoadRead}

@@ -6,7 +6,7 @@ use Prim.Native.Nat.{ℕ, _+_, _-_, _≤_, _<_}
 use native.Mathlib.Omega.{arith}
 use lib.ListN.{length, take, drop, drop-of-length-le}
 use lib.Seq.{drop-length, take-nil, length-take-le}
-use Rattle.weight.specs.Ascii.{space}
+use Rattle.weight.specs.Characters.{space}
 use Rattle.text.specs.Searching.{FirstAt}
 use Rattle.script.specs.Words.{firstWord, afterWord}
 

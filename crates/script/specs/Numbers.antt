@@ -6,7 +6,7 @@ use mathlib.Core.List.{List, [], _∷_}
 use lib.Dec.{leb, ltb, eqb}
 use lib.IntN.{pos, negℤ}
 use lib.ListN.{length, getD, drop}
-use Rattle.weight.specs.Ascii.{minus, digit}
+use Rattle.weight.specs.Characters.{minus, digit}
 use Rattle.text.specs.Reading.{isDigit}
 use Rattle.script.specs.declared.number.LoadRead.{LoadRead}
 use Rattle.script.specs.declared.number.LoadRead.the-variants.{Within, Beyond}

@@ -8,10 +8,10 @@ use lib.ListN.{length, getD, drop}
 use Rattle.model.specs.declared.profile.Profile.{Profile}
 use Rattle.weight.specs.declared.units.WeightUnit.{WeightUnit}
 use Rattle.weight.specs.declared.units.WeightUnit.the-variants.{G}
-use Rattle.text.specs.declared.units.UnitRead.{UnitRead}
-use Rattle.text.specs.declared.units.UnitRead.the-variants.{Named, Unknown}
-use Rattle.weight.specs.Ascii.{space}
-use Rattle.text.specs.Units.{unitNamed}
+use Rattle.text.specs.declared.unit_texts.UnitRead.{UnitRead}
+use Rattle.text.specs.declared.unit_texts.UnitRead.the-variants.{Named, Unknown}
+use Rattle.weight.specs.Characters.{space}
+use Rattle.text.specs.UnitTexts.{unitNamed}
 use Rattle.script.specs.declared.profile.Numbers.{Numbers}
 use Rattle.script.specs.Numbers.{numberOf}
 use Rattle.script.specs.Words.{firstWord, afterWords}
@@ -78,7 +78,7 @@ withNumbers p n =
       model = p .model;
       software = p .software;
       serial = p .serial;
-      identity = p .identity;
+      release = p .release;
     }
 
 -- ---- the texts

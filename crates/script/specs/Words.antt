@@ -2,7 +2,7 @@
 -- Assumes nothing.
 use Prim.Native.Nat.{ℕ, zero, suc}
 use mathlib.Core.List.{List}
-use Rattle.weight.specs.Ascii.{space}
+use Rattle.weight.specs.Characters.{space}
 use Rattle.text.specs.Searching.{beforeFirst, afterFirst}
 
 -- all of the line where there is no space

@@ -10,7 +10,7 @@ use lib.Dec.{leb}
 use lib.ListN.{length, take, drop, length-drop}
 use lib.Seq.{length-take-le}
 use borrow.Author.Tests.{le-ltb, lt-ltb, le-leb, lt-leb, leb-true}
-use Rattle.weight.specs.Ascii.{point}
+use Rattle.weight.specs.Characters.{point}
 use Rattle.text.specs.Decimals.{TenDigits, ReadsWhole, ReadsDecimal}
 use Rattle.text.specs.Searching.{FirstAt}
 use Rattle.text.specs.Reading.{beforePoint, afterPoint, hasPoint, isDigit, allDigits, numberFrom, isNumber, isDecimal, decimalsIn, valueIn}

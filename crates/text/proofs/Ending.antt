@@ -10,8 +10,8 @@ use lib.IntN.{ℤ, pos, negsuc, natAbs}
 use lib.Signed.{nonNeg}
 use lib.ListN.{length, take, drop, set, getD, length-append, take-append-drop}
 use lib.Seq.{set-split, drop-at, take-append-le, length-take-le, take-take, append-snoc, drop-length, take-suc, set-at}
-use Rattle.weight.specs.Ascii.{minus, point, digit}
-use Rattle.weight.specs.Field.{lastDigits, digitsOf, decimalOf, numberText, widthOf}
+use Rattle.weight.specs.Characters.{minus, point, digit}
+use Rattle.weight.specs.Places.{lastDigits, digitsOf, decimalOf, numberText, widthOf}
 use Rattle.weight.proofs.Width.{width-parts}
 use Rattle.weight.proofs.Digits.{digits-small, digits-step, length-digits-small, length-digits-step, length-last-digits}
 

@@ -12,8 +12,8 @@ use borrow.Author.Tests.{eq-eqb, ne-eqb, eqb-true, lt-leb}
 use Rattle.text.specs.declared.reading.FieldRead.{FieldRead}
 use Rattle.text.specs.declared.reading.FieldRead.the-variants.{Number, NoNumber}
 use Rattle.weight.specs.declared.rounding.LastPlaces.{LastPlaces}
-use Rattle.weight.specs.Ascii.{minus, point}
-use Rattle.weight.specs.Field.{signed, signedPlaces}
+use Rattle.weight.specs.Characters.{minus, point}
+use Rattle.weight.specs.Places.{signed, signedPlaces}
 use Rattle.text.specs.Decimals.{ReadsDecimal, MinusAt}
 use Rattle.text.specs.Reading.{beforePoint, hasMinus, afterMinus, noLeadingZero, isDecimal, valueIn, decimalsIn, isWritten, readNumber, readField, afterSpaces}
 use Rattle.text.proofs.DecimalText.{both}

@@ -2,12 +2,13 @@ pub mod Cells
 pub mod DecimalText
 mod Ending
 mod FieldText
+pub mod FieldWidth
 pub mod Named
 mod NumberText
 mod Parts
+mod Printing
 pub mod ReadBack
 mod SameText
 pub mod Searching
 mod TypedText
-pub mod Width
 pub mod WriteBack

@@ -12,10 +12,10 @@ use lib.ListN.{length, drop, getD}
 use lib.Seq.{drop-cons}
 use Rattle.weight.specs.declared.units.WeightUnit.{WeightUnit}
 use Rattle.weight.specs.declared.units.WeightUnit.the-variants.{G, Mg, Ct, Oz, Ozt, Gn, Dwt}
-use Rattle.text.specs.declared.units.UnitRead.{UnitRead}
-use Rattle.text.specs.declared.units.UnitRead.the-variants.{Named}
+use Rattle.text.specs.declared.unit_texts.UnitRead.{UnitRead}
+use Rattle.text.specs.declared.unit_texts.UnitRead.the-variants.{Named}
 use Rattle.text.specs.Ascii.{sameText}
-use Rattle.text.specs.Units.{unitText, allUnits, firstNamed, unitNamed}
+use Rattle.text.specs.UnitTexts.{unitText, allUnits, firstNamed, unitNamed}
 use Rattle.weight.proofs.Allowed.{both-left, both-right}
 
 -- no unit is over three characters

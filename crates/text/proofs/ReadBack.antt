@@ -11,8 +11,8 @@ use lib.IntN.{ℤ, pos, negsuc}
 use lib.ListN.{length, getD, replicate, length-append, length-replicate, List·getD-append}
 use borrow.Author.Tests.{le-leb, ltb-true, ltb-false, leb-true, eq-eqb, ne-eqb}
 use Rattle.text.specs.declared.reading.FieldRead.the-variants.{Number}
-use Rattle.weight.specs.Ascii.{space, minus, point, digit}
-use Rattle.weight.specs.Field.{lastDigits, digitsOf, decimalOf, numberText, widthOf, fitsField}
+use Rattle.weight.specs.Characters.{space, minus, point, digit}
+use Rattle.weight.specs.Places.{lastDigits, digitsOf, decimalOf, numberText, widthOf, fitsField}
 use Rattle.text.specs.Field.{fieldOf}
 use Rattle.text.specs.Reading.{beforePoint, afterPoint, hasPoint, isDigit, allDigits, numberFrom, isNumber, isDecimal, decimalsIn, valueIn}
 use Rattle.text.specs.Reading.{afterSpaces, hasMinus, noLeadingZero, isWritten, readNumber, readField}

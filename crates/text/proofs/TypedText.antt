@@ -7,8 +7,8 @@ use Prim.Native.Nat.{ℕ, _≤_, _<_}
 use borrow.Author.Tests.{le-leb, lt-leb}
 use lib.ListN.{length}
 use Rattle.weight.specs.declared.units.WeightUnit.{WeightUnit}
-use Rattle.weight.specs.declared.typed.Typed.the-variants.{NotTyped}
-use Rattle.weight.specs.Typed.{typedMicrograms, amountOf}
+use Rattle.weight.specs.declared.amount.Typed.the-variants.{NotTyped}
+use Rattle.weight.specs.Amounts.{typedMicrograms, amountOf}
 use Rattle.text.specs.Reading.{isDecimal, decimalsIn, valueIn}
 use Rattle.text.specs.Typed.{isTyped, readTyped}
 

@@ -14,8 +14,8 @@ use borrow.Author.Tests.{le-leb, lt-leb, eqb-true, eqb-false, not-true}
 use Rattle.text.specs.declared.reading.FieldRead.{FieldRead}
 use Rattle.text.specs.declared.reading.FieldRead.the-variants.{Number, NoNumber}
 use Rattle.weight.specs.declared.rounding.LastPlaces.{LastPlaces}
-use Rattle.weight.specs.Ascii.{space, minus, point, digit}
-use Rattle.weight.specs.Field.{lastDigits, digitsOf, decimalOf, numberText, widthOf, fitsField, signed}
+use Rattle.weight.specs.Characters.{space, minus, point, digit}
+use Rattle.weight.specs.Places.{lastDigits, digitsOf, decimalOf, numberText, widthOf, fitsField, signed}
 use Rattle.text.specs.Field.{fieldOf}
 use Rattle.text.specs.Reading.{beforePoint, afterPoint, hasPoint, isDigit, allDigits, numberFrom, isNumber, isDecimal, decimalsIn, valueIn}
 use Rattle.text.specs.Reading.{afterSpaces, hasMinus, afterMinus, noLeadingZero, isWritten, readNumber, readField}

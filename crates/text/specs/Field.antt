@@ -5,8 +5,8 @@ use mathlib.Core.Bool.{Bool, cond}
 use mathlib.Core.List.{List, _++_}
 use lib.IntN.{ℤ}
 use lib.ListN.{replicate}
-use Rattle.weight.specs.Ascii.{space}
-use Rattle.weight.specs.Field.{numberText, widthOf}
+use Rattle.weight.specs.Characters.{space}
+use Rattle.weight.specs.Places.{numberText, widthOf}
 use Rattle.text.specs.declared.field.Field.{Field}
 
 -- ten characters, right aligned

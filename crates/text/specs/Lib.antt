@@ -1,8 +1,9 @@
 pub mod Ascii
 pub mod Decimals
 pub mod Field
+pub mod Printable
 pub mod Reading
 pub mod Searching
 pub mod Short
 pub mod Typed
-pub mod Units
+pub mod UnitTexts

@@ -8,8 +8,8 @@ use lib.Dec.{leb, eqb}
 use lib.ListN.{length, getD, drop}
 use Rattle.text.specs.declared.reading.FieldRead.{FieldRead}
 use Rattle.text.specs.declared.reading.FieldRead.the-variants.{Number, NoNumber}
-use Rattle.weight.specs.Ascii.{space, minus, point, digit}
-use Rattle.weight.specs.Field.{signed}
+use Rattle.weight.specs.Characters.{space, minus, point, digit}
+use Rattle.weight.specs.Places.{signed}
 use Rattle.text.specs.Searching.{beforeFirst, afterFirst, hasByte}
 
 -- the bytes before the first point, all of them where there is none

@@ -3,7 +3,7 @@
 use Prim.Native.Nat.{ℕ, _-_}
 use mathlib.Core.List.{List, _++_}
 use lib.ListN.{length, take, replicate}
-use Rattle.weight.specs.Ascii.{space}
+use Rattle.weight.specs.Characters.{space}
 use Rattle.text.specs.declared.short.ShortText.{ShortText}
 
 -- the text in three cells, spaces after it

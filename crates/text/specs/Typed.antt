@@ -6,9 +6,9 @@ use mathlib.Core.List.{List}
 use lib.Dec.{leb}
 use lib.ListN.{length}
 use Rattle.weight.specs.declared.units.WeightUnit.{WeightUnit}
-use Rattle.weight.specs.declared.typed.Typed.{Typed}
-use Rattle.weight.specs.declared.typed.Typed.the-variants.{NotTyped}
-use Rattle.weight.specs.Typed.{typedMicrograms, amountOf}
+use Rattle.weight.specs.declared.amount.Typed.{Typed}
+use Rattle.weight.specs.declared.amount.Typed.the-variants.{NotTyped}
+use Rattle.weight.specs.Amounts.{typedMicrograms, amountOf}
 use Rattle.text.specs.Reading.{isDecimal, decimalsIn, valueIn}
 
 -- 1 to 10 characters, digits with at most one point that has digits on both sides, at most 6 decimals

@@ -3,7 +3,7 @@ ghost use mathlib.Core.Path.{_≡_};
 ghost use mathlib.Core.List.{_++_};
 ghost use Prim.Native.Nat.{_+_, _-_, _/_, _^_, _≤_};
 ghost use lib.ListN.{length, take, drop};
-ghost use Rattle.weight.specs.Field.{digitsOf, lastDigits, decimalOf, numberText, widthOf, fitsField};
+ghost use Rattle.weight.specs.Places.{digitsOf, lastDigits, decimalOf, numberText, widthOf, fitsField};
 ghost use Rattle.text.specs.Field.{fieldIf};
 use weight::LastPlaces;
 use weight::fits;
@@ -16,8 +16,6 @@ const MINUS: u8 = 45;
 
 const POINT: u8 = 46;
 
-const ZERO: u8 = 48;
-
 // The cells are spaces where the number does not fit.
 pub struct Field {
     pub fits: bool,
@@ -29,7 +27,7 @@ fn digit_byte(n: u64) -> u8
     requires { ⌜ n ≤ 9 ⌝ }
     ensures { λ r. ⌜ r ≡ 48 + n ⌝ }
 {
-    ZERO + n as u8
+    b'0' + n as u8
 }
 
 // Writes the last `count` digits of `value` so that they end before `end`; answers what stands above them.

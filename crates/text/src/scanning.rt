@@ -2,6 +2,7 @@
 ghost use mathlib.Core.Path.{_≡_};
 ghost use lib.ListN.{getD, take, drop};
 ghost use Rattle.text.specs.Ascii.{sameText};
+ghost use Rattle.text.specs.Printable.{isPrintable};
 ghost use Rattle.text.specs.Searching.{FirstAt};
 
 pub fn same_text(a: &[u8], b: &[u8]) -> bool
@@ -57,4 +58,21 @@ pub fn part(text: &[u8], start: usize, count: usize) -> &[u8]
     }
     let stop = start + count;
     &text[start..stop]
+}
+
+// Bytes 32 to 255 without 34.
+pub fn is_printable(text: &[u8]) -> bool
+    ensures { λ r. ⌜ r ≡ isPrintable (now (text .entry)) ⌝ }
+{
+    let mut i = 0;
+    while i < text.len() {
+        if text[i] < b' ' {
+            return false;
+        }
+        if text[i] == b'"' {
+            return false;
+        }
+        i += 1;
+    }
+    true
 }

@@ -11,7 +11,7 @@ use lib.IntN.{ℤ, pos, negsuc, negℤ, natAbs}
 use lib.Signed.{ltZ}
 use Rattle.weight.specs.declared.loads.Load.{Load}
 use Rattle.weight.specs.declared.rounding.Micrograms.{Micrograms}
-use Rattle.weight.specs.Field.{digitsOf, decimalOf, numberText}
+use Rattle.weight.specs.Places.{digitsOf, decimalOf, numberText}
 use Rattle.weight.proofs.Digits.{digits-small, digits-step}
 use Rattle.told.specs.Laying.{Laid}
 use Rattle.told.specs.StateLines.{loadText}

@@ -13,8 +13,8 @@ use Rattle.model.specs.declared.state.Waiting.{Waiting}
 use Rattle.model.specs.declared.weighing.Weighing.{Weighing}
 use Rattle.text.specs.Ascii.{ascii}
 use Rattle.weight.specs.declared.loads.Load.{Load}
-use Rattle.weight.specs.declared.typed.Tare as T
-use Rattle.weight.specs.Field.{digitsOf, numberText}
+use Rattle.weight.specs.declared.amount.Tare as T
+use Rattle.weight.specs.Places.{digitsOf, numberText}
 
 -- a load in micrograms, a minus directly before the digits if it is below zero
 abbrev pub loadText : Load → List ℕ

@@ -3,7 +3,7 @@ ghost use mathlib.Core.Path.{_≡_};
 ghost use mathlib.Core.List.{_++_};
 ghost use Rattle.told.specs.Laying.{Laid, laidOver, laidCount};
 ghost use Rattle.told.specs.StateLines.{zeroWord, tareWord, sampleWord, waitsWord, repeatsWord, showsWord, lineWord, stateLine};
-ghost use Rattle.weight.specs.Field.{digitsOf};
+ghost use Rattle.weight.specs.Places.{digitsOf};
 use crate::words::put;
 use crate::words::put_if;
 use crate::words::put_load;

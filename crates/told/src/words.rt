@@ -3,7 +3,7 @@
 ghost use mathlib.Core.List.{[], _∷_};
 ghost use Rattle.told.specs.Laying.{Laid};
 ghost use Rattle.told.specs.StateLines.{loadText, onlyIf};
-ghost use Rattle.weight.specs.Field.{digitsOf};
+ghost use Rattle.weight.specs.Places.{digitsOf};
 use weight::Load;
 use weight::from_load;
 use weight::is_under;

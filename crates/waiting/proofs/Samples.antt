@@ -4,10 +4,11 @@ use mathlib.Core.Path.{_≡_, refl, sym}
 use mathlib.Core.Bool.{Bool, true, false, cond, _||_, false≢true}
 use Rattle.answer.specs.declared.answer.Answer.the-variants as answers
 use Rattle.model.specs.declared.profile.Profile.{Profile}
-use Rattle.waiting.specs.declared.react.Reaction.{Reaction}
+use Rattle.model.specs.declared.react.Reaction.{Reaction}
 use Rattle.model.specs.declared.state.State.{State}
 use Rattle.weight.specs.declared.loads.Load.{Load}
-use Rattle.waiting.specs.Waits.{chosenReaction, isAwaited, measuredReaction, notWaiting, reaction, sampleReaction, sampledState, settled, waited, withWaiting}
+use Rattle.model.specs.Groups.{chosenReaction, notWaiting, reaction, withWaiting}
+use Rattle.waiting.specs.Waits.{isAwaited, measuredReaction, sampleReaction, sampledState, settled, waited}
 use Rattle.model.specs.States.{isPending}
 use Rattle.weighing.specs.Weighings.{weighed}
 

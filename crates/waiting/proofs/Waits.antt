@@ -7,10 +7,11 @@ use borrow.Author.Tests.{le-leb, lt-leb}
 use Rattle.answer.specs.declared.answer.Answer.{Answer}
 use Rattle.answer.specs.declared.answer.Answer.the-variants as answers
 use Rattle.answer.specs.declared.answer.Status.the-variants.{I}
-use Rattle.waiting.specs.declared.react.Reaction.{Reaction}
+use Rattle.model.specs.declared.react.Reaction.{Reaction}
 use Rattle.weighing.specs.declared.weighing.Measured.{Measured}
-use Rattle.waiting.specs.Waits.{begun, measuredReaction, notWaiting, placeOfPending, reaction, settled, waited, withWaiting}
-use Rattle.weighing.specs.Weighings.{headOf}
+use Rattle.model.specs.Groups.{notWaiting, reaction, withWaiting}
+use Rattle.waiting.specs.Waits.{begun, measuredReaction, placeOfPending, settled, waited}
+use Rattle.answer.specs.Lines.{headOf}
 use Rattle.model.specs.declared.profile.Profile.{Profile}
 use Rattle.model.specs.declared.state.Pending.{Pending}
 use Rattle.model.specs.declared.state.State.{State}

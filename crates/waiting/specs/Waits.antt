@@ -1,57 +1,28 @@
 -- Document 01, "What each command does": waiting for a stable sample, and what a sample makes of the state, with its answer.
 -- Assumes nothing.
 use Prim.Native.Nat.{ℕ, _+_}
-use mathlib.Core.Bool.{Bool, true, false, cond, _&&_, _||_}
+use mathlib.Core.Bool.{Bool, cond, _&&_, _||_}
 use lib.Dec.{leb}
 use Rattle.answer.specs.Commands.{placeS, placeT, placeZ}
-use Rattle.answer.specs.declared.answer.Answer.{Answer}
 use Rattle.answer.specs.declared.answer.Answer.the-variants.{Plain}
 use Rattle.answer.specs.declared.answer.Answer.the-variants as answers
 use Rattle.answer.specs.declared.answer.Status.the-variants.{A, I}
-use Rattle.line.specs.declared.receive.Line.{Line}
 use Rattle.model.specs.declared.profile.Profile.{Profile}
 use Rattle.model.specs.declared.state.Pending.{Pending}
 use Rattle.model.specs.declared.state.Pending.the-variants.{Nothing, Weigh, Zero, Tare}
-use Rattle.model.specs.declared.state.Waiting.{Waiting}
-use Rattle.model.specs.declared.state.Display.{Display}
 use Rattle.model.specs.declared.state.State.{State}
 use Rattle.weight.specs.declared.loads.Load.{Load}
 use Rattle.model.specs.declared.weighing.Weighing.{Weighing}
+use Rattle.model.specs.Groups.{withWeighing, withWaiting, reaction, chosenReaction, notWaiting}
 use Rattle.model.specs.States.{isPending}
-use Rattle.waiting.specs.declared.react.Reaction.{Reaction}
+use Rattle.model.specs.declared.react.Reaction.{Reaction}
 use Rattle.weighing.specs.declared.weighing.Measured.{Measured}
-use Rattle.weighing.specs.Weighings.{headOf, weighed, withSample, zeroed, tared}
-
--- ---- the groups of the state, each put back alone
-
-abbrev pub withLine : State → Line → State
-withLine s l = record { line = l; weighing = s .weighing; waiting = s .waiting; repeating = s .repeating; display = s .display }
-
-abbrev pub withWeighing : State → Weighing → State
-withWeighing s w = record { line = s .line; weighing = w; waiting = s .waiting; repeating = s .repeating; display = s .display }
-
-abbrev pub withWaiting : State → Waiting → State
-withWaiting s w = record { line = s .line; weighing = s .weighing; waiting = w; repeating = s .repeating; display = s .display }
-
-abbrev pub withRepeating : State → Bool → State
-withRepeating s r = record { line = s .line; weighing = s .weighing; waiting = s .waiting; repeating = r; display = s .display }
-
-abbrev pub withDisplay : State → Display → State
-withDisplay s d = record { line = s .line; weighing = s .weighing; waiting = s .waiting; repeating = s .repeating; display = d }
-
-abbrev pub reaction : State → Answer → Reaction
-reaction s a = record { state = s; answer = a }
-
-abbrev pub chosenReaction : Bool → Reaction → Reaction → Reaction
-chosenReaction true a b = a
-chosenReaction false a b = b
+use Rattle.answer.specs.Lines.{headOf}
+use Rattle.weighing.specs.Weighings.{weighed, withSample, zeroed, tared}
 
 -- the weighing that a command made, and its answer
 abbrev pub measuredReaction : State → Measured → Reaction
 measuredReaction s m = reaction (withWeighing s (m .weighing)) (m .answer)
-
-abbrev pub notWaiting : Waiting
-notWaiting = record { pending = Nothing; unstable = 0 }
 
 -- ---- S, Z and T: judged at a stable sample, and else waiting
 

@@ -1,16 +1,9 @@
 // Commands that wait for a stable sample, and what a sample makes of the state.
 // The crates above use the promises of the functions named here and the laws of proofs/.
-mod groups;
 mod react;
 mod sample;
 mod wait;
 
-pub use groups::with_display;
-pub use groups::with_line;
-pub use groups::with_repeating;
-pub use groups::with_weighing;
-pub use react::Reaction;
-pub use react::answered;
 pub use react::measured_reaction;
 pub use sample::is_awaited;
 pub use sample::sample_reaction;

@@ -1,27 +1,28 @@
 // What a sample makes of the state.
 ghost use mathlib.Core.Path.{_≡_};
 ghost use mathlib.Core.Bool.{cond};
+ghost use Rattle.model.specs.Groups as groups;
 ghost use Rattle.waiting.specs.Waits as meaning;
 ghost use Rattle.weighing.specs.Weighings as weights;
-use crate::groups::with_waiting;
-use crate::groups::with_weighing;
-use crate::react::Reaction;
-use crate::react::answered;
 use crate::react::measured_reaction;
 use crate::wait::not_waiting;
 use crate::wait::settled;
 use crate::wait::waited;
 use answer::Answer;
 use model::Profile;
+use model::Reaction;
 use model::State;
+use model::answered;
 use model::is_pending;
+use model::with_waiting;
+use model::with_weighing;
 use weighing::weighed;
 use weighing::with_sample;
 use weight::Load;
 
 // A sample that finds no command waiting is answered while a repetition runs.
 fn repeated(profile: Profile, state: State) -> Reaction
-    ensures { λ r. ⌜ r ≡ meaning.reaction state (cond (state .repeating) (weights.weighed profile (state .weighing)) Answer.Nothing) ⌝ }
+    ensures { λ r. ⌜ r ≡ groups.reaction state (cond (state .repeating) (weights.weighed profile (state .weighing)) Answer.Nothing) ⌝ }
 {
     if state.repeating {
         let weighing = state.weighing;
@@ -32,8 +33,8 @@ fn repeated(profile: Profile, state: State) -> Reaction
 
 // A sample that finds a command waiting; it is the state's latest.
 fn attended(profile: Profile, state: State) -> Reaction
-    ensures { λ r. ⌜ r ≡ meaning.chosenReaction (state .weighing .stable)
-        (meaning.measuredReaction (meaning.withWaiting state meaning.notWaiting) (meaning.settled profile (state .waiting .pending) (state .weighing)))
+    ensures { λ r. ⌜ r ≡ groups.chosenReaction (state .weighing .stable)
+        (meaning.measuredReaction (groups.withWaiting state groups.notWaiting) (meaning.settled profile (state .waiting .pending) (state .weighing)))
         (meaning.waited profile state) ⌝ }
 {
     let weighing = state.weighing;

@@ -1,22 +1,23 @@
 // S, Z and T: judged at a stable sample, and else waiting.
 ghost use mathlib.Core.Path.{_≡_};
+ghost use Rattle.model.specs.Groups as groups;
 ghost use Rattle.waiting.specs.Waits as meaning;
-use crate::groups::with_waiting;
-use crate::react::Reaction;
-use crate::react::answered;
 use crate::react::measured_reaction;
 use answer::Answer;
 use answer::S;
 use answer::Status;
 use answer::T;
 use answer::Z;
+use answer::plain;
 use model::Pending;
 use model::Profile;
+use model::Reaction;
 use model::State;
 use model::Waiting;
 use model::Weighing;
+use model::answered;
+use model::with_waiting;
 use weighing::Measured;
-use weighing::plain;
 use weighing::tared;
 use weighing::unchanged;
 use weighing::weighed;
@@ -41,7 +42,7 @@ fn waiting_for(pending: Pending, unstable: u32) -> Waiting
 }
 
 pub fn not_waiting() -> Waiting
-    ensures { λ r. ⌜ r ≡ meaning.notWaiting ⌝ }
+    ensures { λ r. ⌜ r ≡ groups.notWaiting ⌝ }
 {
     Waiting {
         pending: Pending::Nothing,

@@ -14,7 +14,8 @@ use Rattle.answer.specs.declared.answer.Status.the-variants.{Over, Under}
 use Rattle.model.specs.declared.profile.Profile.{Profile}
 use Rattle.model.specs.declared.weighing.Weighing.{Weighing}
 use Rattle.weighing.specs.declared.weighing.Measured.{Measured}
-use Rattle.weighing.specs.Weighings.{grossOf, netOf, headOf, stability, numberOf, weighed, withTare, withZero, zeroed, tared}
+use Rattle.answer.specs.Lines.{headOf}
+use Rattle.weighing.specs.Weighings.{grossOf, netOf, stability, numberOf, weighed, withTare, withZero, zeroed, tared}
 
 module _ (p : Profile) (w : Weighing) {gross : ℤ} (g : gross ≡ grossOf w) where
   pub weighed-over : {over : Bool} {a : Answer} → over ≡ ltZ (pos (p .capacity)) gross → over ≡ true → a ≡ Plain (headOf placeS Over) → a ≡ weighed p w

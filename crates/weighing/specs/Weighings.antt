@@ -7,7 +7,7 @@ use lib.Signed.{ltZ}
 use Rattle.answer.specs.Commands.{placeS, placeTA}
 use Rattle.answer.specs.declared.answer.Answer.{Answer}
 use Rattle.answer.specs.declared.answer.Answer.the-variants.{Plain, Weight}
-use Rattle.answer.specs.declared.answer.Head.{Head}
+use Rattle.answer.specs.Lines.{headOf}
 use Rattle.answer.specs.declared.answer.Number.{Number}
 use Rattle.answer.specs.declared.answer.Status.{Status}
 use Rattle.answer.specs.declared.answer.Status.the-variants.{A, S, D, Over, Under}
@@ -26,9 +26,6 @@ grossOf w = w .load .0 -ℤ w .zero .0
 -- Net = gross - tare
 abbrev pub netOf : Weighing → ℤ
 netOf w = grossOf w -ℤ pos (w .tare .0)
-
-abbrev pub headOf : ℕ → Status → Head
-headOf c s = record { identification = c; status = s }
 
 -- a weight as it is printed
 abbrev pub numberOf : Profile → ℤ → Number

@@ -3,7 +3,6 @@
 mod weighing;
 
 pub use weighing::Measured;
-pub use weighing::plain;
 pub use weighing::stability;
 pub use weighing::tare_answer;
 pub use weighing::tared;

@@ -1,5 +1,6 @@
 // Zero, tare and the latest sample, and what the commands do with them.
 ghost use mathlib.Core.Path.{_≡_};
+ghost use Rattle.answer.specs.Lines.{headOf};
 ghost use Rattle.weighing.specs.Weighings as meaning;
 use answer::Answer;
 use answer::Head;
@@ -7,6 +8,7 @@ use answer::Number;
 use answer::S;
 use answer::Status;
 use answer::TA;
+use answer::plain;
 use model::Profile;
 use model::Weighing;
 use weight::Load;
@@ -58,18 +60,8 @@ fn number_of(profile: Profile, weight: Micrograms) -> Number
     }
 }
 
-// An answer of identification and status alone.
-pub fn plain(command: u8, status: Status) -> Answer
-    ensures { λ r. ⌜ r ≡ Answer.Plain (meaning.headOf command status) ⌝ }
-{
-    Answer::Plain(Head {
-        identification: command,
-        status,
-    })
-}
-
 fn weight_answer(command: u8, status: Status, number: Number) -> Answer
-    ensures { λ r. ⌜ r ≡ Answer.Weight (meaning.headOf command status) number ⌝ }
+    ensures { λ r. ⌜ r ≡ Answer.Weight (headOf command status) number ⌝ }
 {
     Answer::Weight(
         Head {

@@ -12,7 +12,7 @@ use lib.IntN.{pos, negsuc, negℤ}
 use Rattle.weight.specs.declared.rounding.Resolution.{Resolution}
 use Rattle.weight.specs.Units.{nanogramsOf}
 use Rattle.weight.specs.Rounding.{allowedResolution, halfUp}
-use Rattle.weight.specs.Field.{fitsField}
+use Rattle.weight.specs.Places.{fitsField}
 use Rattle.weight.specs.Printing.{fitsBelowZero}
 use Rattle.weight.proofs.Allowed.{nanograms-least, nanograms-positive, allowed-decimals, allowed-step, allowed-step-positive, allowed-step-limit}
 use Rattle.weight.proofs.Monotone.{naturalPlaces, places-of-negated}

@@ -9,8 +9,8 @@ use native.Mathlib.Omega.{arith}
 use lib.Dec.{ltb}
 use lib.ListN.{length, length-append}
 use borrow.Author.Tests.{lt-ltb, le-ltb, ltb-true, ltb-false}
-use Rattle.weight.specs.Ascii.{digit}
-use Rattle.weight.specs.Field.{lastDigits, digitsIn, digitsOf}
+use Rattle.weight.specs.Characters.{digit}
+use Rattle.weight.specs.Places.{lastDigits, digitsIn, digitsOf}
 
 -- one step of the recursion, whatever the count
 in-small : (f m : ℕ) → m < 10 → digitsIn f m ≡ digit m ∷ []

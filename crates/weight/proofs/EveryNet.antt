@@ -11,7 +11,7 @@ use lib.IntN.{ℤ, pos, negsuc, negℤ}
 use lib.Signed.{leZ}
 use Rattle.weight.specs.declared.rounding.Resolution.{Resolution}
 use Rattle.weight.specs.Rounding.{placesOf}
-use Rattle.weight.specs.Field.{fitsField}
+use Rattle.weight.specs.Places.{fitsField}
 use Rattle.weight.proofs.Allowed.{both-hold, both-left, both-right}
 use Rattle.weight.proofs.Monotone.{naturalPlaces, natural-places-monotone, places-amount, places-of-pos, places-of-negated}
 use Rattle.weight.proofs.Width.{fits-below, fits-above}

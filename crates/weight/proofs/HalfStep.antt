@@ -11,7 +11,7 @@ use Rattle.weight.specs.declared.units.WeightUnit.{WeightUnit}
 use Rattle.weight.specs.declared.rounding.Resolution.{Resolution}
 use Rattle.weight.specs.Units.{nanogramsOf}
 use Rattle.weight.specs.Rounding.{allowedResolution, halfUp, placesOf, placeFemtograms, stepFemtograms, printedFemtograms, exactFemtograms, Near}
-use Rattle.weight.specs.Typed.{typedMicrograms, typedFemtograms}
+use Rattle.weight.specs.Amounts.{typedMicrograms, typedFemtograms}
 use Rattle.weight.proofs.Allowed.{allowed-decimals, allowed-divisor-positive, power-positive}
 use Rattle.weight.proofs.HalfUp.{half-up-not-over, half-up-near}
 use Rattle.weight.proofs.Monotone.{naturalPlaces, places-of-pos, places-of-negsuc, times-odd}

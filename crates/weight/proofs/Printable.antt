@@ -5,7 +5,7 @@ use mathlib.Core.Bool.{Bool, true, false, _&&_}
 use lib.IntN.{ℤ, pos}
 use Rattle.weight.specs.declared.rounding.Resolution.{Resolution}
 use Rattle.weight.specs.Rounding.{allowedResolution, inRange, placesOf}
-use Rattle.weight.specs.Field.{fitsField}
+use Rattle.weight.specs.Places.{fitsField}
 use Rattle.weight.specs.Printing.{printable, printedNumber}
 
 module _ (r : Resolution) (net : ℤ) where

@@ -9,7 +9,7 @@ use lib.IntN.{pos, _-ℤ_}
 use mir.Syntax.{w64}
 use mir.Val.{SFits, toZ, ofZ}
 use mir.Facts.{toZ-pos}
-use Rattle.weight.specs.Field.{signed, signedPlaces}
+use Rattle.weight.specs.Places.{signed, signedPlaces}
 use Rattle.weight.proofs.Machine.{opposite-asks, opposite-gives}
 
 -- over ten digits

@@ -6,10 +6,10 @@ use native.Mathlib.Nat.{mul-le-mul, mul-le-mul-right, lt-of-le-of-lt, lt-of-not-
 use native.Mathlib.Omega.{arith}
 use borrow.Author.Tests.{le-leb, lt-leb}
 use Rattle.weight.specs.declared.units.WeightUnit.{WeightUnit}
-use Rattle.weight.specs.declared.typed.Typed.the-variants.{Amount, TooLarge, NotTyped}
+use Rattle.weight.specs.declared.amount.Typed.the-variants.{Amount, TooLarge, NotTyped}
 use Rattle.weight.specs.Units.{nanogramsOf}
 use Rattle.weight.specs.Rounding.{halfUp}
-use Rattle.weight.specs.Typed.{MostPlaces, typedMicrograms, largestCapacity, amountOf, typedAmount}
+use Rattle.weight.specs.Amounts.{MostPlaces, typedMicrograms, largestCapacity, amountOf, typedAmount}
 use Rattle.weight.proofs.Allowed.{power-positive}
 use Rattle.weight.proofs.HalfUp.{half-up-tie-up}
 use Rattle.weight.proofs.Range.{scale-limit}

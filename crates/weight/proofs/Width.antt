@@ -11,7 +11,7 @@ use lib.Pow.{pow-add}
 use lib.Signed.{nonNeg}
 use lib.ListN.{length, length-append}
 use borrow.Author.Tests.{lt-ltb, le-ltb, le-leb, ltb-true, ltb-false, leb-true, leb-false}
-use Rattle.weight.specs.Field.{digitsOf, decimalOf, numberText, widthOf, fitsField}
+use Rattle.weight.specs.Places.{digitsOf, decimalOf, numberText, widthOf, fitsField}
 use Rattle.weight.proofs.Digits.{length-digits-small, length-digits-step, length-last-digits}
 
 -- two tests agree if each follows from the other

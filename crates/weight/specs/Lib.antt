@@ -1,6 +1,6 @@
-pub mod Ascii
-pub mod Field
+pub mod Amounts
+pub mod Characters
+pub mod Places
 pub mod Printing
 pub mod Rounding
-pub mod Typed
 pub mod Units

@@ -6,7 +6,7 @@ use lib.IntN.{ℤ, pos, negℤ}
 use Rattle.weight.specs.declared.printing.Printed.{Printed}
 use Rattle.weight.specs.declared.rounding.Resolution.{Resolution}
 use Rattle.weight.specs.Rounding.{allowedResolution, inRange, placesOf}
-use Rattle.weight.specs.Field.{fitsField}
+use Rattle.weight.specs.Places.{fitsField}
 
 -- the resolution is allowed, the net is one that a device can meet, and its number fits ten characters
 unfoldable pub printable : Resolution → ℤ → Bool

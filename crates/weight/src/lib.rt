@@ -1,18 +1,17 @@
 // The arithmetic of weights: units, gross and net, the rounding of a weight to display steps, whether a number fits ten
 // characters, and typed amounts. Every conversion between the counts that have a type of their own is here. The crates above use the promises of the functions named here and the laws of proofs/.
-mod field;
+mod amount;
 mod integer;
 mod limits;
 mod loads;
+mod places;
 mod printing;
 mod rounding;
-mod typed;
 mod units;
 
-pub use field::fits;
-pub use field::is_below_zero;
-pub use field::signed_places;
-pub use field::size_of_number;
+pub use amount::Tare;
+pub use amount::Typed;
+pub use amount::typed_amount;
 pub use limits::is_over;
 pub use limits::is_tare_within;
 pub use limits::is_under;
@@ -25,6 +24,10 @@ pub use loads::from_tare;
 pub use loads::gross_of;
 pub use loads::net_of;
 pub use loads::tare_of;
+pub use places::fits;
+pub use places::is_below_zero;
+pub use places::signed_places;
+pub use places::size_of_number;
 pub use printing::Printed;
 pub use printing::fits_below_zero;
 pub use printing::printed_number;
@@ -34,9 +37,6 @@ pub use rounding::Micrograms;
 pub use rounding::Resolution;
 pub use rounding::is_allowed;
 pub use rounding::size_of;
-pub use typed::Tare;
-pub use typed::Typed;
-pub use typed::typed_amount;
 pub use units::Nanograms;
 pub use units::WeightUnit;
 pub use units::nanograms_of;

@@ -4,10 +4,10 @@ ghost use mathlib.Core.Bool.{_&&_};
 ghost use lib.Dec.{leb};
 ghost use lib.IntN.{pos, negℤ};
 ghost use lib.Signed.{ltZ, leZ};
+use crate::amount::Tare;
 use crate::loads::from_count;
 use crate::loads::negative_of;
 use crate::rounding::Micrograms;
-use crate::typed::Tare;
 
 fn above(a: Micrograms, b: Micrograms) -> bool
     ensures { λ r. ⌜ r ≡ ltZ (b .0) (a .0) ⌝ }

@@ -3,9 +3,9 @@ ghost use mathlib.Core.Path.{_≡_};
 ghost use lib.IntN.{pos, negℤ, natAbs, _-ℤ_};
 ghost use mir.Syntax.{w64};
 ghost use mir.Val.{SFits};
+use crate::amount::Tare;
 use crate::rounding::Micrograms;
 use crate::rounding::size_of;
-use crate::typed::Tare;
 
 // A sample's load, in micrograms.
 pub struct Load(pub i32);

@@ -1,7 +1,7 @@
 // The printed number of a net weight.
 ghost use mathlib.Core.Path.{_≡_};
 ghost use Rattle.weight.specs.Printing.{printedNumber, fitsBelowZero};
-use crate::field::fits;
+use crate::places::fits;
 use crate::rounding::LastPlaces;
 use crate::rounding::Micrograms;
 use crate::rounding::Resolution;

@@ -3,12 +3,12 @@ use borrow.Author.Needs.{needs}
 use lib.ListN.{length}
 use Rattle.model.specs.Profiles.{textOf20, textOf40}
 use Rattle.model.proofs.ProfileFacts.{allowed-profile}
-use Rattle.device.proofs.Delivery.{bytes-model, bytes-software, bytes-serial, bytes-identity, bytes-plain, short}
+use Rattle.device.proofs.Delivery.{bytes-model, bytes-software, bytes-serial, bytes-release, bytes-plain, short}
 use Rattle.device.proofs.buffer.emit_due.Statement.{statement}
 use Rattle.device.proofs.buffer.emit_due.Tie as tie
 
-identity-in-requires : tie.Need-identity-in-requires
-identity-in-requires c κs = search needs
+text-command-requires : tie.Need-text-command-requires
+text-command-requires c κs = search needs
 
 slice-aggregate-emit-with : tie.Need-slice-aggregate-emit-with
 slice-aggregate-emit-with c = search needs
@@ -25,7 +25,7 @@ same-length c = search needs
 returns : tie.Need-returns
 returns c =
     let start = c .before .before .before .before .before .before .before .before .before .before in
-    let due = sym (c .before .before .before .before .before .before .before .before .identity-in .ensures) ∙ c .before .before .before .before .before .before .before .if1 .taken in
+    let due = sym (c .before .before .before .before .before .before .before .before .text-command .ensures) ∙ c .before .before .before .before .before .before .before .if1 .taken in
     rw (bytes-model (start .args .profile) (start .args .answer) due) (c .before .before .emit-with .ensures)
 
 slice-aggregate-emit-with-2 : tie.Need-slice-aggregate-emit-with-2
@@ -45,7 +45,7 @@ same-length-2 c = search needs
 returns-2 : tie.Need-returns-2
 returns-2 c =
     let start = c .before .before .before .before .before .before .before .before .before .before .before in
-    let due = sym (c .before .before .before .before .before .before .before .before .before .identity-in .ensures) ∙ c .before .before .before .before .before .before .before .if2 .taken in
+    let due = sym (c .before .before .before .before .before .before .before .before .before .text-command .ensures) ∙ c .before .before .before .before .before .before .before .if2 .taken in
     rw (bytes-software (start .args .profile) (start .args .answer) due) (c .before .before .emit-with2 .ensures)
 
 slice-aggregate-emit-with-3 : tie.Need-slice-aggregate-emit-with-3
@@ -65,19 +65,19 @@ same-length-3 c = search needs
 returns-3 : tie.Need-returns-3
 returns-3 c =
     let start = c .before .before .before .before .before .before .before .before .before .before .before .before in
-    let due = sym (c .before .before .before .before .before .before .before .before .before .before .identity-in .ensures) ∙ c .before .before .before .before .before .before .before .if3 .taken in
+    let due = sym (c .before .before .before .before .before .before .before .before .before .before .text-command .ensures) ∙ c .before .before .before .before .before .before .before .if3 .taken in
     rw (bytes-serial (start .args .profile) (start .args .answer) due) (c .before .before .emit-with3 .ensures)
 
 slice-aggregate-emit-with-4 : tie.Need-slice-aggregate-emit-with-4
 slice-aggregate-emit-with-4 c = search needs
 
-identity-cells : (c : tie.After-text4) → length (c .before .before .before .before .before .before .before .args .profile .identity .bytes) ≡ 20
-identity-cells c = search needs
+release-cells : (c : tie.After-text4) → length (c .before .before .before .before .before .before .before .args .profile .release .bytes) ≡ 20
+release-cells c = search needs
 
 emit-with-requires-4 : tie.Need-emit-with-requires-4
 emit-with-requires-4 c κs =
     let start = c .before .before .before .before .before .before .before .before .before .before in
-    rw (identity-cells (c .before .before .before)) (short 20 (start .args .profile .identity .len) (textOf20 (start .args .profile .identity)) (allowed-profile (start .args .profile) (start .pre) .identity))
+    rw (release-cells (c .before .before .before)) (short 20 (start .args .profile .release .len) (textOf20 (start .args .profile .release)) (allowed-profile (start .args .profile) (start .pre) .release))
 
 same-length-4 : tie.Need-same-length-4
 same-length-4 c = search needs
@@ -85,8 +85,8 @@ same-length-4 c = search needs
 returns-4 : tie.Need-returns-4
 returns-4 c =
     let start = c .before .before .before .before .before .before .before .before .before .before .before .before .before in
-    let due = sym (c .before .before .before .before .before .before .before .before .before .before .before .identity-in .ensures) ∙ c .before .before .before .before .before .before .before .if4 .taken in
-    rw (bytes-identity (start .args .profile) (start .args .answer) due) (c .before .before .emit-with4 .ensures)
+    let due = sym (c .before .before .before .before .before .before .before .before .before .before .before .text-command .ensures) ∙ c .before .before .before .before .before .before .before .if4 .taken in
+    rw (bytes-release (start .args .profile) (start .args .answer) due) (c .before .before .emit-with4 .ensures)
 
 slice-aggregate-emit-answer : tie.Need-slice-aggregate-emit-answer
 slice-aggregate-emit-answer c = search needs
@@ -100,7 +100,7 @@ same-length-5 c = search needs
 returns-5 : tie.Need-returns-5
 returns-5 c =
     let start = c .before .before .before .before .before .before .before .before .before .before .before in
-    let is = c .before .before .before .before .before .before .before .before .before .identity-in .ensures in
+    let is = c .before .before .before .before .before .before .before .before .before .text-command .ensures in
     let tests = c .before .before .before .before .before in
     rw (bytes-plain (start .args .profile) (start .args .answer) (λ e. tests .before .before .before .if1 .left (is ∙ e)) (λ e. tests .before .before .if2 .left (is ∙ e)) (λ e. tests .before .if3 .left (is ∙ e)) (λ e. tests .if4 .left (is ∙ e)))
     (c .before .before .emit-answer .ensures)
@@ -109,7 +109,7 @@ pub emit-due-spec : {M : Type 1} → statement M
 emit-due-spec =
     tie.close
     (tie.spec
-    identity-in-requires
+    text-command-requires
     slice-aggregate-emit-with
     emit-with-requires
     same-length

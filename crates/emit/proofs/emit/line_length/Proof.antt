@@ -4,7 +4,7 @@ use mathlib.Core.Path.{sym, ap}
 use lib.ListN.{length}
 use Rattle.answer.specs.declared.answer.Answer.{Answer}
 use Rattle.answer.specs.Lines.{lineOf}
-use Rattle.answer.proofs.Lengths.{plain-length, weight-length, refused-length, text-length, listed-length, list-length, versions-length}
+use Rattle.answer.proofs.Lengths.{plain-length, weight-length, error-length, text-length, listed-length, list-length, versions-length}
 use borrow.Author.Needs.{needs}
 use native.Mathlib.Omega.{arith}
 use Rattle.emit.proofs.emit.line_length.Statement.{statement}
@@ -87,7 +87,7 @@ returns-4 : tie.Need-returns-4
 returns-4 c =
     let t = c .before .before .before .args .text .now in
     let line = c .enum-told2 in
-    omega (arith, ap (λ (a : Answer). length (lineOf a t)) (line .given .1), refused-length (line .given .0 .0) t)
+    omega (arith, ap (λ (a : Answer). length (lineOf a t)) (line .given .1), error-length (line .given .0 .0) t)
 
 returns-5 : tie.Need-returns-5
 returns-5 c =

@@ -2,7 +2,7 @@
 -- Assumes nothing.
 use mathlib.Core.List.{[], _∷_}
 use Rattle.text.specs.Short.{textOf}
-use Rattle.text.specs.Units.{unitText}
+use Rattle.text.specs.UnitTexts.{unitText}
 use Rattle.text.proofs.Cells.{cells-enough}
 use Rattle.answer.specs.Lines.{weightText}
 use Rattle.emit.proofs.Laying.{Three, laid-3, room-1-of-3, room-2-of-3, room-3-of-3}

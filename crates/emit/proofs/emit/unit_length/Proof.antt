@@ -1,6 +1,6 @@
 -- `emit::emit::unit_length` meets its contract.
 -- Assumes nothing.
-use Rattle.text.specs.Units.{unitText}
+use Rattle.text.specs.UnitTexts.{unitText}
 use Rattle.text.proofs.Cells.{cells-length}
 use Rattle.text.proofs.Named.{unit-short}
 use borrow.Author.Needs.{needs}

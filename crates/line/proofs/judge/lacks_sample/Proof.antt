@@ -3,7 +3,6 @@
 use borrow.Author.Needs.{needs}
 use Rattle.line.proofs.judge.lacks_sample.Statement.{statement}
 use Rattle.line.proofs.judge.lacks_sample.Tie as tie
-use Rattle.answer.proofs.needs_sample.Reads as needs-sample-reads
 
 needs-sample-requires : tie.Need-needs-sample-requires
 needs-sample-requires c κs = search needs

@@ -5,7 +5,7 @@ use Prim.Native.Nat.{_+_, _-_, _≤_}
 use native.Mathlib.Omega.{arith}
 use lib.ListN.{length}
 use borrow.Author.Needs.{needs}
-use Rattle.weight.specs.Field.{digitsOf}
+use Rattle.weight.specs.Places.{digitsOf}
 use Rattle.weight.proofs.Digits.{length-digits-small, length-digits-step}
 use Rattle.text.proofs.Ending.{between, digits-turn, digits-done}
 use Rattle.text.proofs.field.all_digits.Statement.{statement}

@@ -9,8 +9,8 @@ use lib.IntN.{ℤ}
 use lib.ListN.{take, replicate, length-replicate, replicate-append-replicate}
 use lib.Seq.{take-at}
 use borrow.Author.Needs.{needs}
-use Rattle.weight.specs.Ascii.{space}
-use Rattle.weight.specs.Field.{numberText, widthOf, fitsField}
+use Rattle.weight.specs.Characters.{space}
+use Rattle.weight.specs.Places.{numberText, widthOf, fitsField}
 use Rattle.text.specs.Field.{fieldOf, blank, fieldIf}
 use Rattle.weight.proofs.Width.{fits-width}
 use Rattle.text.proofs.field.field_of.Statement.{statement}

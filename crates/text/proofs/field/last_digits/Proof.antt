@@ -5,7 +5,7 @@ use Prim.Native.Nat.{_+_, _-_, _/_, _^_, _≤_}
 use native.Mathlib.Omega.{arith}
 use lib.ListN.{length}
 use borrow.Author.Needs.{needs}
-use Rattle.weight.specs.Field.{lastDigits}
+use Rattle.weight.specs.Places.{lastDigits}
 use Rattle.text.proofs.Ending.{between, last-turn, rest-turn, last-done, rest-done}
 use Rattle.text.proofs.field.last_digits.Statement.{statement}
 use Rattle.text.proofs.field.last_digits.Tie as tie

@@ -46,24 +46,16 @@ pub fn emit_due(profile: Profile, answer: Answer, out: &mut [u8]) -> Emitted
 {
     let command = text_command(answer);
     if command == answer::I2 {
-        let text = profile.model;
-        let cells = text.bytes;
-        return emit_with(answer, &cells, text.len, out);
+        return emit_with(answer, &profile.model.bytes, profile.model.len, out);
     }
     if command == answer::I3 {
-        let text = profile.software;
-        let cells = text.bytes;
-        return emit_with(answer, &cells, text.len, out);
+        return emit_with(answer, &profile.software.bytes, profile.software.len, out);
     }
     if command == answer::I4 {
-        let text = profile.serial;
-        let cells = text.bytes;
-        return emit_with(answer, &cells, text.len, out);
+        return emit_with(answer, &profile.serial.bytes, profile.serial.len, out);
     }
     if command == answer::I5 {
-        let text = profile.release;
-        let cells = text.bytes;
-        return emit_with(answer, &cells, text.len, out);
+        return emit_with(answer, &profile.release.bytes, profile.release.len, out);
     }
     emit_answer(answer, b"", out)
 }

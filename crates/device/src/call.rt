@@ -2,15 +2,12 @@
 // changed, and a refusal gives the given state back and leaves the buffer as it was. Most inputs are not answered: they change one
 // group of the state and need no buffer.
 ghost use mathlib.Core.Path.{_≡_};
-ghost use mathlib.Core.Bool.{true};
-ghost use Rattle.device.specs.Calls.{delivered, Gives, PowerOnCalled, ByteCalled, SampleCalled};
-ghost use Rattle.model.specs.Profiles.{profileAllowed};
+ghost use Rattle.device.specs.Calls.{PowerOnCalled, ByteCalled, SampleCalled};
 use crate::buffer::emit_due;
 use answer::Answer;
 use commands::line_reaction;
 use line::receive_byte;
 use model::Profile;
-use model::Reaction;
 use model::Refusal;
 use model::State;
 use model::answered;
@@ -24,11 +21,11 @@ use waiting::sampled;
 use weight::Load;
 
 pub struct Called {
-    pub refusal: Refusal,
     // The given state where it is refused.
     pub state: State,
     // How many bytes of the buffer are the answer.
     pub count: usize,
+    pub refusal: Refusal,
 }
 
 fn refused(refusal: Refusal, given: State) -> Called
@@ -51,20 +48,6 @@ fn taken(state: State, count: usize) -> Called
     }
 }
 
-// The answer that is due goes into the buffer, or the call is refused for want of room.
-fn deliver(profile: Profile, given: State, reaction: Reaction, out: &mut [u8]) -> Called
-    requires { ⌜ profileAllowed profile ≡ true ⌝ }
-    ensures { λ r. ⌜ Gives (delivered profile given reaction (now (out .entry))) r (now (out .exit)) ⌝ }
-{
-    let answer = reaction.answer;
-    let emitted = emit_due(profile, answer, out);
-    if emitted.fits {
-        let after = reaction.state;
-        return taken(after, emitted.count);
-    }
-    refused(Refusal::Room, given)
-}
-
 // Power on: the earlier state is only handed back with a refusal.
 pub fn power_on(profile: Profile, earlier: State, out: &mut [u8]) -> Called
     ensures { λ r. ⌜ PowerOnCalled profile earlier (now (out .entry)) r (now (out .exit)) ⌝ }
@@ -73,7 +56,13 @@ pub fn power_on(profile: Profile, earlier: State, out: &mut [u8]) -> Called
         return refused(Refusal::Profile, earlier);
     }
     let started = answered(start_state(), Answer::Text(answer::I4));
-    deliver(profile, earlier, started, out)
+    let answer = started.answer;
+    let emitted = emit_due(profile, answer, out);
+    if emitted.fits {
+        let after = started.state;
+        return taken(after, emitted.count);
+    }
+    refused(Refusal::Room, earlier)
 }
 
 // A received byte, with its mark.
@@ -89,7 +78,14 @@ pub fn take_byte(profile: Profile, state: State, byte: u8, faulty: bool, out: &m
     let before = state.line;
     let received = receive_byte(before, byte, faulty);
     if received.ended {
-        return deliver(profile, state, line_reaction(profile, state), out);
+        let reaction = line_reaction(profile, state);
+        let answer = reaction.answer;
+        let emitted = emit_due(profile, answer, out);
+        if emitted.fits {
+            let after = reaction.state;
+            return taken(after, emitted.count);
+        }
+        return refused(Refusal::Room, state);
     }
     let line = received.line;
     taken(with_line(state, line), 0)
@@ -113,7 +109,13 @@ pub fn take_sample(
     }
     if is_awaited(state) {
         let reaction = sample_reaction(profile, state, load, stable);
-        return deliver(profile, state, reaction, out);
+        let answer = reaction.answer;
+        let emitted = emit_due(profile, answer, out);
+        if emitted.fits {
+            let after = reaction.state;
+            return taken(after, emitted.count);
+        }
+        return refused(Refusal::Room, state);
     }
     taken(sampled(state, load, stable), 0)
 }

@@ -16,9 +16,9 @@ pub struct Line {
 }
 
 pub struct Received {
-    pub ended: bool,
     // The finished line if it ended, and else the line so far.
     pub line: Line,
+    pub ended: bool,
 }
 
 // The bytes that a line holds at most.

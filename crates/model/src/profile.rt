@@ -50,20 +50,16 @@ fn is_text_allowed(bytes: &[u8], len: u8) -> bool
 pub fn is_text_allowed20(text: Text20) -> bool
     ensures { λ r. ⌜ r ≡ textAllowed20 text ⌝ }
 {
-    let bytes = text.bytes;
-    is_text_allowed(&bytes, text.len)
+    is_text_allowed(&text.bytes, text.len)
 }
 
 fn are_texts_allowed(profile: Profile) -> bool
     ensures { λ r. ⌜ r ≡ textsAllowed profile ⌝ }
 {
-    let serial = profile.serial;
-    let release = profile.release;
-    let short = is_text_allowed20(serial) & is_text_allowed20(release);
-    let model = profile.model.bytes;
-    let software = profile.software.bytes;
-    let long = is_text_allowed(&model, profile.model.len)
-        & is_text_allowed(&software, profile.software.len);
+    let short = is_text_allowed(&profile.serial.bytes, profile.serial.len)
+        & is_text_allowed(&profile.release.bytes, profile.release.len);
+    let long = is_text_allowed(&profile.model.bytes, profile.model.len)
+        & is_text_allowed(&profile.software.bytes, profile.software.len);
     long & short
 }
 

@@ -24,24 +24,24 @@ pub enum Pending {
 }
 
 pub struct Waiting {
-    pub pending: Pending,
     // The unstable samples that have come while it waits.
     pub unstable: u32,
+    pub pending: Pending,
 }
 
 pub struct Display {
+    pub text: Text20,
     // The text of D is shown in place of the weight.
     pub shown: bool,
-    pub text: Text20,
 }
 
 pub struct State {
     pub line: Line,
     pub weighing: Weighing,
     pub waiting: Waiting,
+    pub display: Display,
     // Document 01's repetition: each sample is answered, as SIR asked.
     pub repeating: bool,
-    pub display: Display,
 }
 
 pub fn is_pending(pending: Pending) -> bool

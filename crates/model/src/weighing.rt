@@ -6,8 +6,8 @@ pub struct Weighing {
     // The load that counts as nothing.
     pub zero: Load,
     pub tare: Tare,
-    // Whether there was a sample since power-on, and the latest one.
-    pub sampled: bool,
+    // The latest sample, and whether there was one since power-on.
     pub load: Load,
     pub stable: bool,
+    pub sampled: bool,
 }

@@ -1,24 +1,45 @@
--- The search for a byte that no text between quotes may have.
+-- Whether a text may stand between quotes, by going over all its bytes.
 -- Assumes nothing.
-use mathlib.Core.Path.{_≡_, refl}
-use mathlib.Core.Bool.{true, false}
+use mathlib.Core.Path.{_≡_, refl, sym, ap, _∙_}
+use mathlib.Core.Bool.{Bool, true, false, not, _&&_}
 use mathlib.Core.List.{List}
-use Prim.Native.Nat.{ℕ, _+_, _≤_, _<_}
-use lib.ListN.{length, getD}
-use borrow.Author.Tests.{eq-eqb, ne-eqb, le-leb, lt-leb}
+use Prim.Native.Nat.{ℕ, suc, _+_, _≤_, _<_}
+use native.Mathlib.Numerals.{add-one}
+use native.Mathlib.Omega.{arith}
+use lib.Dec.{leb, eqb}
+use lib.ListN.{length, getD, drop, drop-of-length-le}
+use lib.Seq.{drop-cons}
 use Rattle.weight.specs.Characters.{space, quote}
 use Rattle.text.specs.Printable.{isPrintable}
-use Rattle.text.proofs.Searching.{LeftAt, one-less, settled-by, none-left}
 
-module _ (t : List ℕ) (i : ℕ) (p : LeftAt isPrintable t i) where
-  pub below-printable : i < length t → getD t i 0 < space → false ≡ isPrintable t
-  below-printable h low = settled-by isPrintable t i p h (rw (lt-leb space (getD t i 0) low))
+-- the answer for t is that so far and that for what is left at i
+pub record PrintableTo (t : List ℕ) (i : ℕ) (printable : Bool) : Type 0 where
+  pub in-text : i ≤ length t
+  pub same : printable && isPrintable (drop i t) ≡ isPrintable t
 
-  pub quote-unprintable : i < length t → space ≤ getD t i 0 → getD t i 0 ≡ quote → false ≡ isPrintable t
-  quote-unprintable h high e = settled-by isPrintable t i p h (rw (le-leb space (getD t i 0) high, eq-eqb (getD t i 0) quote e))
+pub printable-first : (t : List ℕ) → PrintableTo t 0 true
+printable-first t = record { in-text = omega arith; same = refl }
 
-  pub printable-here : i < length t → space ≤ getD t i 0 → (getD t i 0 ≡ quote → ⊥) → LeftAt isPrintable t (i + 1)
-  printable-here h high n = one-less isPrintable t i p h (rw (le-leb space (getD t i 0) high, ne-eqb (getD t i 0) quote n))
+grouped : (g a b r : Bool) → ((g && a) && b) && r ≡ g && ((a && b) && r)
+grouped true true b r = refl
+grouped true false b r = refl
+grouped false a b r = refl
 
-  pub all-printable : length t ≤ i → true ≡ isPrintable t
-  all-printable h = none-left isPrintable t i p h refl
+pub printable-turn : (t : List ℕ) (i : ℕ) (g : Bool) → PrintableTo t i g → i < length t
+    → PrintableTo t (i + 1) ((g && leb space (getD t i 0)) && not (eqb (getD t i 0) quote))
+printable-turn t i g p h =
+    record {
+      in-text = omega arith;
+      same =
+          rw (add-one i)
+          (grouped g (leb space (getD t i 0)) (not (eqb (getD t i 0) quote)) (isPrintable (drop (suc i) t))
+          ∙ ap (λ l. g && isPrintable l) (sym (drop-cons t i 0 h))
+          ∙ p .same);
+    }
+
+and-true : (g : Bool) → g && true ≡ g
+and-true true = refl
+and-true false = refl
+
+pub printable-last : (t : List ℕ) (i : ℕ) (g : Bool) → PrintableTo t i g → length t ≤ i → g ≡ isPrintable t
+printable-last t i g p h = sym (and-true g) ∙ ap (λ l. g && isPrintable l) (sym (drop-of-length-le t h)) ∙ p .same

@@ -60,19 +60,16 @@ pub fn part(text: &[u8], start: usize, count: usize) -> &[u8]
     &text[start..stop]
 }
 
-// Bytes 32 to 255 without 34.
+// Bytes 32 to 255 without 34. Every byte is looked at: a way out at the first wrong one costs more.
 pub fn is_printable(text: &[u8]) -> bool
     ensures { λ r. ⌜ r ≡ isPrintable (now (text .entry)) ⌝ }
 {
     let mut i = 0;
+    let mut printable = true;
     while i < text.len() {
-        if text[i] < b' ' {
-            return false;
-        }
-        if text[i] == b'"' {
-            return false;
-        }
+        let byte = text[i];
+        printable = printable & (b' ' <= byte) & (byte != b'"');
         i += 1;
     }
-    true
+    printable
 }

@@ -7,6 +7,7 @@ use crate::rounding::Micrograms;
 use crate::rounding::Resolution;
 use crate::rounding::divisor_of;
 use crate::rounding::is_allowed;
+use crate::rounding::is_step_allowed;
 use crate::rounding::places_of;
 use crate::rounding::scale_of;
 use crate::rounding::size_of;
@@ -45,10 +46,15 @@ pub fn printed_number(resolution: Resolution, net: Micrograms) -> Printed
 pub fn fits_below_zero(resolution: Resolution, size: u32) -> bool
     ensures { λ r. ⌜ r ≡ fitsBelowZero resolution size ⌝ }
 {
-    if !is_allowed(resolution) {
+    if 6 < resolution.decimals {
+        return false;
+    }
+    let scale = scale_of(resolution.decimals);
+    let divisor = divisor_of(resolution);
+    if !is_step_allowed(resolution.step, scale, divisor) {
         return false;
     }
     let unit = resolution.unit;
-    let scaled = size as u64 * scale_of(resolution.decimals);
-    scaled + scaled + divisor_of(resolution) < nanograms_of(unit).0 * TWICE_PLACES_LIMIT
+    let scaled = size as u64 * scale;
+    scaled + scaled + divisor < nanograms_of(unit).0 * TWICE_PLACES_LIMIT
 }

@@ -1,6 +1,7 @@
 // A net weight in micrograms becomes display steps, in one rounding, and these the printed number.
 ghost use mathlib.Core.Path.{_≡_};
-ghost use mathlib.Core.Bool.{true};
+ghost use mathlib.Core.Bool.{true, _&&_, _||_};
+ghost use lib.Dec.{eqb, leb};
 ghost use Prim.Native.Nat.{_*_, _<_, _≤_, _^_};
 ghost use Rattle.weight.specs.Units.{nanogramsOf};
 ghost use lib.IntN.{pos, natAbs, _*ℤ_};
@@ -75,16 +76,26 @@ pub fn scale_of(decimals: u8) -> u64
     }
 }
 
+// Whether a step is one of document 01's, and at least one microgram by what a rounding multiplies and divides by.
+pub fn is_step_allowed(step: u8, scale: u64, divisor: u64) -> bool
+    ensures { λ r. ⌜ r ≡ ((eqb step 1 || eqb step 2 || eqb step 5) && leb scale divisor) ⌝ }
+{
+    let known = (step == 1) | (step == 2) | (step == 5);
+    known & (scale <= divisor)
+}
+
 // Whether decimals and step are those of document 01, and the step is at least one microgram.
 pub fn is_allowed(resolution: Resolution) -> bool
     ensures { λ r. ⌜ r ≡ allowedResolution resolution ⌝ }
 {
-    let step = resolution.step;
     if 6 < resolution.decimals {
         return false;
     }
-    let known = (step == 1) | (step == 2) | (step == 5);
-    known & (scale_of(resolution.decimals) <= divisor_of(resolution))
+    is_step_allowed(
+        resolution.step,
+        scale_of(resolution.decimals),
+        divisor_of(resolution),
+    )
 }
 
 // How far from zero an amount is.

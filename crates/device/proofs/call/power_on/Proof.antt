@@ -1,7 +1,7 @@
 use mathlib.Core.Path.{sym, _∙_}
 use borrow.Author.Tests.{not-false}
 use borrow.Author.Needs.{needs}
-use Rattle.device.proofs.Refusals.{on-refused, on-delivered}
+use Rattle.device.proofs.Refusals.{sent, unsent, on-refused, on-delivered}
 use Rattle.device.proofs.call.power_on.Statement.{statement}
 use Rattle.device.proofs.call.power_on.Tie as tie
 
@@ -20,14 +20,40 @@ start-state-requires c κs = search needs
 answered-requires : tie.Need-answered-requires
 answered-requires c κs = search needs
 
-deliver-requires : tie.Need-deliver-requires
-deliver-requires c κs = sym (c .before .before .before .before .is-profile-allowed .ensures) ∙ not-false _ (c .before .before .before .if1 .left)
+emit-due-requires : tie.Need-emit-due-requires
+emit-due-requires c κs =
+    let passed = c .before .before .before in
+    sym (passed .before .is-profile-allowed .ensures) ∙ not-false _ (passed .if1 .left)
+
+taken-requires : tie.Need-taken-requires
+taken-requires c κs = search needs
 
 same-length : tie.Need-same-length
 same-length c = search needs
 
 returns-2 : tie.Need-returns-2
-returns-2 c = search (needs, on-delivered)
+returns-2 c =
+    let fitted = c .before .before in
+    let laid = fitted .before .before .before in
+    let started = laid .before .before in
+    let passed = started .before .before in
+    on-delivered _ _ _ (passed .before .is-profile-allowed .ensures) (passed .if1 .left) (started .before .start-state .ensures) (started .answered .ensures)
+    (sent _ _ _ _ (laid .emit-due .ensures .0) (laid .emit-due .ensures .1) (fitted .if2 .taken) (c .taken .ensures))
+
+refused-requires-2 : tie.Need-refused-requires-2
+refused-requires-2 c κs = search needs
+
+same-length-2 : tie.Need-same-length-2
+same-length-2 c = search needs
+
+returns-3 : tie.Need-returns-3
+returns-3 c =
+    let unfit = c .before in
+    let laid = unfit .before .before .before in
+    let started = laid .before .before in
+    let passed = started .before .before in
+    on-delivered _ _ _ (passed .before .is-profile-allowed .ensures) (passed .if1 .left) (started .before .start-state .ensures) (started .answered .ensures)
+    (unsent _ _ _ _ (laid .emit-due .ensures .0) (laid .emit-due .ensures .1) (unfit .if2 .left) (c .refused2 .ensures))
 
 pub power-on-spec : {M : Type 1} → statement M
 power-on-spec =
@@ -38,6 +64,10 @@ power-on-spec =
     returns
     start-state-requires
     answered-requires
-    deliver-requires
+    emit-due-requires
+    taken-requires
     same-length
-    returns-2)
+    returns-2
+    refused-requires-2
+    same-length-2
+    returns-3)

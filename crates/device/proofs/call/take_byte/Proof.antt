@@ -1,7 +1,7 @@
 use mathlib.Core.Path.{sym, _∙_}
 use borrow.Author.Tests.{not-false}
 use borrow.Author.Needs.{needs}
-use Rattle.device.proofs.Refusals.{byte-profile, byte-state, byte-delivered, byte-silent}
+use Rattle.device.proofs.Refusals.{sent, unsent, byte-profile, byte-state, byte-delivered, byte-silent}
 use Rattle.device.proofs.call.take_byte.Statement.{statement}
 use Rattle.device.proofs.call.take_byte.Tie as tie
 
@@ -29,23 +29,53 @@ receive-byte-requires c κs = search needs
 line-reaction-requires : tie.Need-line-reaction-requires
 line-reaction-requires c κs = search needs
 
-deliver-requires : tie.Need-deliver-requires
-deliver-requires c κs = sym (c .before .before .before .before .before .before .before .before .is-profile-allowed .ensures) ∙ not-false _ (c .before .before .before .before .before .before .before .if1 .left)
+emit-due-requires : tie.Need-emit-due-requires
+emit-due-requires c κs = sym (c .before .before .before .before .before .before .before .before .is-profile-allowed .ensures) ∙ not-false _ (c .before .before .before .before .before .before .before .if1 .left)
+
+taken-requires : tie.Need-taken-requires
+taken-requires c κs = search needs
 
 same-length : tie.Need-same-length
 same-length c = search needs
 
 returns-3 : tie.Need-returns-3
-returns-3 c = search (needs, byte-delivered)
+returns-3 c =
+    let fitted = c .before .before in
+    let laid = fitted .before .before .before in
+    let reacted = laid .before .before in
+    let ended = reacted .before in
+    let passed = ended .before .before .before in
+    let start = passed .before .before .before in
+    byte-delivered _ _ _ _ _ (start .is-profile-allowed .ensures) (passed .before .before .if1 .left) (passed .before .is-state-allowed .ensures)
+    (ended .before .receive-byte .ensures) (ended .if3 .taken) (passed .if2 .left) (reacted .line-reaction .ensures)
+    (sent _ _ _ _ (laid .emit-due .ensures .0) (laid .emit-due .ensures .1) (fitted .if4 .taken) (c .taken .ensures))
+
+refused-requires-3 : tie.Need-refused-requires-3
+refused-requires-3 c κs = search needs
+
+same-length-2 : tie.Need-same-length-2
+same-length-2 c = search needs
+
+returns-4 : tie.Need-returns-4
+returns-4 c =
+    let unfit = c .before in
+    let laid = unfit .before .before .before in
+    let reacted = laid .before .before in
+    let ended = reacted .before in
+    let passed = ended .before .before .before in
+    let start = passed .before .before .before in
+    byte-delivered _ _ _ _ _ (start .is-profile-allowed .ensures) (passed .before .before .if1 .left) (passed .before .is-state-allowed .ensures)
+    (ended .before .receive-byte .ensures) (ended .if3 .taken) (passed .if2 .left) (reacted .line-reaction .ensures)
+    (unsent _ _ _ _ (laid .emit-due .ensures .0) (laid .emit-due .ensures .1) (unfit .if4 .left) (c .refused3 .ensures))
 
 with-line-requires : tie.Need-with-line-requires
 with-line-requires c κs = search needs
 
-taken-requires : tie.Need-taken-requires
-taken-requires c κs = search needs
+taken-requires-2 : tie.Need-taken-requires-2
+taken-requires-2 c κs = search needs
 
-returns-4 : tie.Need-returns-4
-returns-4 c = search (needs, byte-silent)
+returns-5 : tie.Need-returns-5
+returns-5 c = search (needs, byte-silent)
 
 pub take-byte-spec : {M : Type 1} → statement M
 take-byte-spec =
@@ -59,9 +89,13 @@ take-byte-spec =
     returns-2
     receive-byte-requires
     line-reaction-requires
-    deliver-requires
+    emit-due-requires
+    taken-requires
     same-length
     returns-3
+    refused-requires-3
+    same-length-2
+    returns-4
     with-line-requires
-    taken-requires
-    returns-4)
+    taken-requires-2
+    returns-5)

@@ -1,7 +1,7 @@
 use mathlib.Core.Path.{sym, _∙_}
 use borrow.Author.Tests.{not-false}
 use borrow.Author.Needs.{needs}
-use Rattle.device.proofs.Refusals.{sample-profile, sample-state, sample-delivered, sample-silent}
+use Rattle.device.proofs.Refusals.{sent, unsent, sample-profile, sample-state, sample-delivered, sample-silent}
 use Rattle.device.proofs.call.take_sample.Statement.{statement}
 use Rattle.device.proofs.call.take_sample.Tie as tie
 
@@ -29,23 +29,51 @@ is-awaited-requires c κs = search needs
 sample-reaction-requires : tie.Need-sample-reaction-requires
 sample-reaction-requires c κs = search needs
 
-deliver-requires : tie.Need-deliver-requires
-deliver-requires c κs = sym (c .before .before .before .before .before .before .before .is-profile-allowed .ensures) ∙ not-false _ (c .before .before .before .before .before .before .if1 .left)
+emit-due-requires : tie.Need-emit-due-requires
+emit-due-requires c κs = sym (c .before .before .before .before .before .before .before .is-profile-allowed .ensures) ∙ not-false _ (c .before .before .before .before .before .before .if1 .left)
+
+taken-requires : tie.Need-taken-requires
+taken-requires c κs = search needs
 
 same-length : tie.Need-same-length
 same-length c = search needs
 
 returns-3 : tie.Need-returns-3
-returns-3 c = search (needs, sample-delivered)
+returns-3 c =
+    let fitted = c .before .before in
+    let laid = fitted .before .before .before in
+    let reacted = laid .before .before in
+    let passed = reacted .before .before .before in
+    let start = passed .before .before .before in
+    sample-delivered _ _ _ _ _ (start .is-profile-allowed .ensures) (passed .before .before .if1 .left) (passed .before .is-state-allowed .ensures)
+    (passed .if2 .left) (reacted .sample-reaction .ensures)
+    (sent _ _ _ _ (laid .emit-due .ensures .0) (laid .emit-due .ensures .1) (fitted .if4 .taken) (c .taken .ensures))
+
+refused-requires-3 : tie.Need-refused-requires-3
+refused-requires-3 c κs = search needs
+
+same-length-2 : tie.Need-same-length-2
+same-length-2 c = search needs
+
+returns-4 : tie.Need-returns-4
+returns-4 c =
+    let unfit = c .before in
+    let laid = unfit .before .before .before in
+    let reacted = laid .before .before in
+    let passed = reacted .before .before .before in
+    let start = passed .before .before .before in
+    sample-delivered _ _ _ _ _ (start .is-profile-allowed .ensures) (passed .before .before .if1 .left) (passed .before .is-state-allowed .ensures)
+    (passed .if2 .left) (reacted .sample-reaction .ensures)
+    (unsent _ _ _ _ (laid .emit-due .ensures .0) (laid .emit-due .ensures .1) (unfit .if4 .left) (c .refused3 .ensures))
 
 sampled-requires : tie.Need-sampled-requires
 sampled-requires c κs = search needs
 
-taken-requires : tie.Need-taken-requires
-taken-requires c κs = search needs
+taken-requires-2 : tie.Need-taken-requires-2
+taken-requires-2 c κs = search needs
 
-returns-4 : tie.Need-returns-4
-returns-4 c = search (needs, sample-silent)
+returns-5 : tie.Need-returns-5
+returns-5 c = search (needs, sample-silent)
 
 pub take-sample-spec : {M : Type 1} → statement M
 take-sample-spec =
@@ -59,9 +87,13 @@ take-sample-spec =
     returns-2
     is-awaited-requires
     sample-reaction-requires
-    deliver-requires
+    emit-due-requires
+    taken-requires
     same-length
     returns-3
+    refused-requires-3
+    same-length-2
+    returns-4
     sampled-requires
-    taken-requires
-    returns-4)
+    taken-requires-2
+    returns-5)

@@ -6,17 +6,13 @@ use lib.ListN.{length}
 use Rattle.model.proofs.profile.is_text_allowed20.Statement.{statement}
 use Rattle.model.proofs.profile.is_text_allowed20.Tie as tie
 
-slice-aggregate-is-text-allowed : tie.Need-slice-aggregate-is-text-allowed
-slice-aggregate-is-text-allowed c = search needs
-
 is-text-allowed-requires : tie.Need-is-text-allowed-requires
 is-text-allowed-requires c κs = search needs
 
 returns : tie.Need-returns
 returns c =
-    let long : length (c .before .before .before .args .text .bytes) ≡ 20 = search needs in
+    let long : length (c .before .before .before .before .args .t1 .bytes) ≡ 20 = search needs in
     rw long at (c .is-text-allowed .ensures)
 
 pub is-text-allowed20-spec : {M : Type 1} → statement M
-is-text-allowed20-spec =
-    tie.close (tie.spec slice-aggregate-is-text-allowed is-text-allowed-requires returns)
+is-text-allowed20-spec = tie.close (tie.spec is-text-allowed-requires returns)

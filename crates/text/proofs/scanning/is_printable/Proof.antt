@@ -1,34 +1,23 @@
--- `text::scanning::is_printable` meets its contract. The loop's invariant: only printable bytes have been passed.
+-- `text::scanning::is_printable` meets its contract. The loop's invariant: the answer is that so far and that for the rest.
 -- Assumes nothing.
 use Prim.Native.Nat.{_-_}
 use borrow.Author.Needs.{needs}
 use lib.ListN.{length}
-use Rattle.text.specs.Printable.{isPrintable}
-use Rattle.text.proofs.Printing.{below-printable, quote-unprintable, printable-here, all-printable}
-use Rattle.text.proofs.Searching.{LeftAt, all-left}
+use Rattle.text.proofs.Printing.{PrintableTo, printable-first, printable-turn, printable-last}
 use Rattle.text.proofs.scanning.is_printable.Statement.{statement}
 use Rattle.text.proofs.scanning.is_printable.Tie as tie
 
 abbrev Inv-loop : tie.InvT-loop
-Inv-loop text i₀ i = LeftAt isPrintable text i
+Inv-loop text i₀ printable₀ i printable = PrintableTo text i printable
 
 abbrev μ-loop : tie.MeasureT-loop
-μ-loop text i₀ i = length text - i
+μ-loop text i₀ printable₀ i printable = length text - i
 
 loop-holds : tie.Need-loop-holds Inv-loop μ-loop
-loop-holds c = search (needs, all-left)
+loop-holds c = search (needs, printable-first)
 
-shared-slice-read-if1 : tie.Need-shared-slice-read-if1 Inv-loop μ-loop
-shared-slice-read-if1 c = search needs
-
-returns : tie.Need-returns Inv-loop μ-loop
-returns c = search (needs, below-printable)
-
-shared-slice-read-if2 : tie.Need-shared-slice-read-if2 Inv-loop μ-loop
-shared-slice-read-if2 c = search needs
-
-returns-2 : tie.Need-returns-2 Inv-loop μ-loop
-returns-2 c = search (needs, quote-unprintable)
+shared-slice-read-byte : tie.Need-shared-slice-read-byte Inv-loop μ-loop
+shared-slice-read-byte c = search needs
 
 add-i : tie.Need-add-i Inv-loop μ-loop
 add-i c = search needs
@@ -37,23 +26,12 @@ loop-less : tie.Need-loop-less Inv-loop μ-loop
 loop-less c = search needs
 
 loop-again : tie.Need-loop-again Inv-loop μ-loop
-loop-again c = search (needs, printable-here)
+loop-again c = search (needs, printable-turn)
 
-returns-3 : tie.Need-returns-3 Inv-loop μ-loop
-returns-3 c = search (needs, all-printable)
+returns : tie.Need-returns Inv-loop μ-loop
+returns c = search (needs, printable-last)
 
 pub is-printable-spec : {M : Type 1} → statement M
 is-printable-spec =
     tie.close
-    (tie.spec
-    Inv-loop
-    μ-loop
-    loop-holds
-    shared-slice-read-if1
-    returns
-    shared-slice-read-if2
-    returns-2
-    add-i
-    loop-less
-    loop-again
-    returns-3)
+    (tie.spec Inv-loop μ-loop loop-holds shared-slice-read-byte add-i loop-less loop-again returns)

@@ -5,33 +5,47 @@ use mathlib.Core.Bool.{true}
 use Prim.Native.Nat.{_*_, _≤_}
 use native.Mathlib.Omega.{arith}
 use borrow.Author.Needs.{needs}
-use borrow.Author.Tests.{not-true, not-false}
+use borrow.Author.Tests.{not-true, not-false, lt-leb, le-leb}
 use mir.Facts.{fits-lt-pow}
 use Rattle.weight.specs.Rounding.{allowedResolution}
-use Rattle.weight.proofs.Allowed.{nanograms-limit, allowed-decimals, allowed-divisor-limit}
+use Rattle.weight.proofs.Allowed.{nanograms-limit, allowed-divisor-limit}
 use Rattle.weight.proofs.BelowZero.{scaled-limit, below-zero-test}
 use Rattle.weight.proofs.printing.fits_below_zero.Statement.{statement}
 use Rattle.weight.proofs.printing.fits_below_zero.Tie as tie
 
-is-allowed-requires : tie.Need-is-allowed-requires
-is-allowed-requires c κs = search needs
-
 returns : tie.Need-returns
-returns c = rw (sym (c .before .is-allowed .ensures) ∙ not-true _ (c .if1 .taken))
-
--- the resolution is allowed
-allowed-at : (c : tie.Else1) → allowedResolution (c .before .before .args .resolution) ≡ true
-allowed-at c = sym (c .before .is-allowed .ensures) ∙ not-false _ (c .if1 .left)
+unfolding allowedResolution
+returns c = simp (lt-leb (c .before .before .args .resolution .decimals) 6 (c .if1 .taken))
 
 scale-of-requires : tie.Need-scale-of-requires
-scale-of-requires c κs = allowed-decimals (c .before .before .args .resolution) (allowed-at c)
+scale-of-requires c κs = search needs
+
+divisor-of-requires : tie.Need-divisor-of-requires
+divisor-of-requires c κs = search needs
+
+is-step-allowed-requires : tie.Need-is-step-allowed-requires
+is-step-allowed-requires c κs = search needs
+
+-- the test of the step is that of the resolution
+tested-at : (c : tie.After-is-step-allowed) → c .is-step-allowed .result ≡ allowedResolution (c .before .before .before .before .before .args .resolution)
+unfolding allowedResolution
+tested-at c =
+    let few = c .before .before .before in
+    simp (c .is-step-allowed .ensures, le-leb (few .before .before .args .resolution .decimals) 6 (few .if1 .left), c .before .before .scale-of .ensures, c .before .divisor-of .ensures)
+
+returns-2 : tie.Need-returns-2
+returns-2 c = rw (sym (tested-at (c .before)) ∙ not-true _ (c .if2 .taken))
+
+-- the resolution is allowed
+allowed-at : (c : tie.Else2) → allowedResolution (c .before .before .before .before .before .before .args .resolution) ≡ true
+allowed-at c = sym (tested-at (c .before)) ∙ not-false _ (c .if2 .left)
 
 -- twice the product is a number that a word holds
-scaled-at : (c : tie.After-scale-of) → c .before .before .before .args .size * c .scale-of .result ≤ 4_294_967_295 * 1_000_000_000
+scaled-at : (c : tie.Else2) → c .before .before .before .before .before .before .args .size * c .before .before .before .scale-of .result ≤ 4_294_967_295 * 1_000_000_000
 scaled-at c =
-    let start = c .before .before .before in
-    rw (c .scale-of .ensures)
-    (scaled-limit (start .args .resolution) (start .args .size) (allowed-at (c .before)) (fits-lt-pow (start .fits .size)))
+    let start = c .before .before .before .before .before .before in
+    rw (c .before .before .before .scale-of .ensures)
+    (scaled-limit (start .args .resolution) (start .args .size) (allowed-at c) (fits-lt-pow (start .fits .size)))
 
 mul-scaled : tie.Need-mul-scaled
 mul-scaled c = record { fits = omega (arith, scaled-at c) }
@@ -39,14 +53,11 @@ mul-scaled c = record { fits = omega (arith, scaled-at c) }
 add-result : tie.Need-add-result
 add-result c = record { fits = omega (arith, scaled-at c) }
 
-divisor-of-requires : tie.Need-divisor-of-requires
-divisor-of-requires c κs = search needs
-
 add-result-2 : tie.Need-add-result-2
 add-result-2 c =
-    let start = c .before .before .before .before in
-    rw (c .divisor-of .ensures)
-    (record { fits = omega (arith, scaled-at (c .before), allowed-divisor-limit (start .args .resolution) (allowed-at (c .before .before))) })
+    let start = c .before .before .before .before .before .before in
+    rw (c .before .before .divisor-of .ensures)
+    (record { fits = omega (arith, scaled-at c, allowed-divisor-limit (start .args .resolution) (allowed-at c)) })
 
 nanograms-of-requires : tie.Need-nanograms-of-requires
 nanograms-of-requires c κs = search needs
@@ -54,25 +65,27 @@ nanograms-of-requires c κs = search needs
 mul-result : tie.Need-mul-result
 mul-result c =
     rw (c .before .nanograms-of .ensures)
-    (record { fits = omega (arith, nanograms-limit (c .before .before .before .before .before .before .args .resolution .unit)) })
+    (record { fits = omega (arith, nanograms-limit (c .before .before .before .before .before .before .before .before .args .resolution .unit)) })
 
-returns-2 : tie.Need-returns-2
-returns-2 c =
-    let start = c .before .before .before .before .before .before in
-    rw (c .before .nanograms-of .ensures, c .before .before .divisor-of .ensures, c .before .before .before .scale-of .ensures)
-    (below-zero-test (start .args .resolution) (start .args .size) (allowed-at (c .before .before .before .before)) (fits-lt-pow (start .fits .size)))
+returns-3 : tie.Need-returns-3
+returns-3 c =
+    let passed = c .before .before in
+    let start = passed .before .before .before .before .before .before in
+    rw (c .before .nanograms-of .ensures, passed .before .before .divisor-of .ensures, passed .before .before .before .scale-of .ensures)
+    (below-zero-test (start .args .resolution) (start .args .size) (allowed-at passed) (fits-lt-pow (start .fits .size)))
 
 pub fits-below-zero-spec : {M : Type 1} → statement M
 fits-below-zero-spec =
     tie.close
     (tie.spec
-    is-allowed-requires
     returns
     scale-of-requires
+    divisor-of-requires
+    is-step-allowed-requires
+    returns-2
     mul-scaled
     add-result
-    divisor-of-requires
     add-result-2
     nanograms-of-requires
     mul-result
-    returns-2)
+    returns-3)

@@ -16,11 +16,16 @@ scale-of-requires c κs = search needs
 divisor-of-requires : tie.Need-divisor-of-requires
 divisor-of-requires c κs = search needs
 
+is-step-allowed-requires : tie.Need-is-step-allowed-requires
+is-step-allowed-requires c κs = search needs
+
 returns-2 : tie.Need-returns-2
 unfolding allowedResolution
 returns-2 c =
-    let decimals = c .before .before .before .before .args .resolution .decimals in
-    simp (le-leb decimals 6 (c .before .before .if1 .left), c .before .scale-of .ensures, c .divisor-of .ensures)
+    let few = c .before .before .before in
+    simp (c .is-step-allowed .ensures, le-leb (few .before .before .args .resolution .decimals) 6 (few .if1 .left), c .before .before .scale-of .ensures, c .before .divisor-of .ensures)
 
 pub is-allowed-spec : {M : Type 1} → statement M
-is-allowed-spec = tie.close (tie.spec returns scale-of-requires divisor-of-requires returns-2)
+is-allowed-spec =
+    tie.close
+    (tie.spec returns scale-of-requires divisor-of-requires is-step-allowed-requires returns-2)

@@ -3,6 +3,8 @@
 pub mod fast;
 pub mod feed;
 #[cfg(feature = "driver")]
+pub mod image;
+#[cfg(feature = "driver")]
 pub mod linked;
 #[cfg(feature = "driver")]
 pub mod rows;

@@ -3,9 +3,16 @@
 //!     benchmark one SIDE ROW COUNT       one row on one side
 //!     benchmark all SIDE                 every row at its small count and at ten times that, for callgrind to count
 //!     benchmark report COUNTS SIZES      the tables; the files hold what callgrind counted and the sizes of the code
+//!
+//! And for `tests/cortex-m0/run`:
+//!
+//!     benchmark histories FOLDER COUNT   the paper's example and so many random histories, each in a folder of its own
+//!     benchmark rows FOLDER              every row at its small count and at ten times that, in the same way
+//!     benchmark board COUNTS SIZES       the tables; the files hold what the timer counted, and the sizes of code and stack
 
 mod tables;
 
+use benchmark::image::{write_histories, write_rows};
 use benchmark::rows::{rows, run, Input, Side, SIDES, SMALL};
 use benchmark::workload::{any_history, any_lines, any_profiles, lines, Rng};
 
@@ -48,6 +55,9 @@ fn main() {
         ["one", name, row, count] => one(Side::named(name), row.parse().expect("a number"), count.parse().expect("a number")),
         ["all", name] => all(Side::named(name)),
         ["report", counts, sizes] => tables::print(compare(), counts, sizes),
-        _ => panic!("usage: benchmark one SIDE ROW COUNT | all SIDE | report COUNTS SIZES"),
+        ["histories", folder, count] => write_histories(folder.as_ref(), count.parse().expect("a number")).expect("a folder"),
+        ["rows", folder] => write_rows(folder.as_ref()).expect("a folder"),
+        ["board", counts, sizes] => tables::print_board(counts, sizes),
+        _ => panic!("usage: benchmark one, all, report, histories, rows or board, with the words that src/main.rs lists"),
     }
 }

@@ -1,5 +1,6 @@
 //! The tables, in Markdown.
 
+use benchmark::image::FEW;
 use benchmark::rows::{rows, run, Input, Row, Side, POWER_ON, SIDES, SMALL, TIMED};
 use std::process::Command;
 use std::time::Instant;
@@ -9,8 +10,8 @@ const ROUNDS: usize = 200;
 const UNITS: usize = 500;
 const LEAST: f64 = 0.002;
 
-/// One number for each side.
-type Each = [f64; 3];
+/// One number for each side, or for each of N columns.
+type Each<const N: usize = 3> = [f64; N];
 
 /// Seconds that a side takes for an input so many times.
 fn timed(side: Side, input: &Input, times: usize) -> f64 {
@@ -88,27 +89,39 @@ fn speed() -> Vec<Each> {
     growth
 }
 
-/// What callgrind counted of a row: each side at the small count and at ten times that.
-type Counted = [Each; 2];
+/// What was counted of a row: each side at the small count and at ten times that.
+type Counted<const N: usize = 3> = [Each<N>; 2];
+
+fn numbers_in(path: &str) -> Vec<f64> {
+    let text = std::fs::read_to_string(path).unwrap_or_default();
+    text.split_whitespace().filter_map(|word| word.parse().ok()).collect()
+}
 
 /// The file holds all numbers of one side, then those of the next.
-fn counted(path: &str) -> Vec<Counted> {
-    let text = std::fs::read_to_string(path).unwrap_or_default();
-    let numbers: Vec<f64> = text.split_whitespace().filter_map(|word| word.parse().ok()).collect();
+fn counted<const N: usize>(path: &str) -> Vec<Counted<N>> {
+    let numbers = numbers_in(path);
     let each = 2 * rows().len();
-    if numbers.len() != SIDES.len() * each {
+    if numbers.len() != N * each {
         return vec![];
     }
-    let at = |place: usize| [0, 1, 2].map(|side| numbers[side * each + place]);
+    let at = |place: usize| std::array::from_fn(|side| numbers[side * each + place]);
     (0..rows().len()).map(|row| [at(2 * row), at(2 * row + 1)]).collect()
 }
 
 /// The instructions of a unit: what the larger input adds.
-fn costs(row: &Row, [small, large]: &Counted, power_on: Each) -> Each {
-    [0, 1, 2].map(|side| {
-        let body = (large[side] - small[side]) / (9 * SMALL) as f64;
+fn cost<const N: usize>(row: &Row, [small, large]: &Counted<N>, few: usize, power_on: Each<N>) -> Each<N> {
+    std::array::from_fn(|side| {
+        let body = (large[side] - small[side]) / (9 * few) as f64;
         (body - if row.less_power_on { power_on[side] } else { 0.0 }) / row.units as f64
     })
+}
+
+/// The name and the instructions of each row, where `few` is the small count.
+fn costs<const N: usize>(counted: &[Counted<N>], few: usize) -> Vec<(String, Each<N>)> {
+    let rows = rows();
+    let all = || rows.iter().zip(counted);
+    let power_on = all().find(|(row, _)| row.name == POWER_ON).map_or([0.0; N], |(row, counts)| cost(row, counts, few, [0.0; N]));
+    all().map(|(row, counts)| (row.name.clone(), cost(row, counts, few, power_on))).collect()
 }
 
 fn instructions(counted: &[Counted]) {
@@ -116,13 +129,9 @@ fn instructions(counted: &[Counted]) {
         println!("\nInstructions were not counted: valgrind is not there.");
         return;
     }
-    let rows = rows();
-    let all = || rows.iter().zip(counted);
-    let power_on = all().find(|(row, _)| row.name == POWER_ON).map_or([0.0; 3], |(row, counts)| costs(row, counts, [0.0; 3]));
     head("instructions for each");
-    for (row, counts) in all() {
-        let costs = costs(row, counts, power_on);
-        compared(&row.name, costs, costs);
+    for (name, costs) in costs(counted, SMALL) {
+        compared(&name, costs, costs);
     }
 }
 
@@ -151,14 +160,12 @@ fn memory(side: Side) -> [f64; 3] {
 fn sizes(path: &str) {
     let memory = SIDES.map(memory);
     let of = |what: usize| memory.map(|numbers| numbers[what]);
-    let code = std::fs::read_to_string(path).unwrap_or_default();
-    let code: Vec<f64> = code.split_whitespace().filter_map(|word| word.parse().ok()).collect();
     head("memory and code");
     let line = |name: &str, numbers: Each| compared(name, numbers, numbers);
     line("peak memory of the process, KiB", of(0));
     line("stack, bytes", of(1));
     line("heap, bytes", of(2));
-    line("code, bytes", code.try_into().unwrap_or([f64::NAN; 3]));
+    line("code, bytes", numbers_in(path).try_into().unwrap_or([f64::NAN; 3]));
 }
 
 pub fn print(compared: usize, counts: &str, size: &str) {
@@ -168,4 +175,19 @@ pub fn print(compared: usize, counts: &str, size: &str) {
     instructions(&counted);
     growth(&times, &counted);
     sizes(size);
+}
+
+/// The tables of the Cortex-M0; the files hold the instructions counted at -O3, then at -Os, and code and stack at each.
+pub fn print_board(counts: &str, sizes: &str) {
+    let line = |name: &str, [fast, small]: Each<2>| println!("| {name} | {} | {} |", grouped(fast), grouped(small));
+    table(&["memory and code", "-O3", "-Os"]);
+    let [code, small_code, stack, small_stack] = numbers_in(sizes).try_into().expect("four sizes");
+    line("code of the module, bytes", [code, small_code]);
+    line("stack, bytes", [stack, small_stack]);
+    let counted = counted(counts);
+    assert!(!counted.is_empty(), "{counts}: two numbers for each row and option");
+    table(&["instructions for each", "-O3", "-Os"]);
+    for (name, costs) in costs(&counted, FEW) {
+        line(&name, costs);
+    }
 }

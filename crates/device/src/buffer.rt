@@ -46,16 +46,24 @@ pub fn emit_due(profile: Profile, answer: Answer, out: &mut [u8]) -> Emitted
 {
     let command = text_command(answer);
     if command == answer::I2 {
-        return emit_with(answer, &profile.model.bytes, profile.model.len, out);
+        let text = profile.model;
+        let cells = text.bytes;
+        return emit_with(answer, &cells, text.len, out);
     }
     if command == answer::I3 {
-        return emit_with(answer, &profile.software.bytes, profile.software.len, out);
+        let text = profile.software;
+        let cells = text.bytes;
+        return emit_with(answer, &cells, text.len, out);
     }
     if command == answer::I4 {
-        return emit_with(answer, &profile.serial.bytes, profile.serial.len, out);
+        let text = profile.serial;
+        let cells = text.bytes;
+        return emit_with(answer, &cells, text.len, out);
     }
     if command == answer::I5 {
-        return emit_with(answer, &profile.release.bytes, profile.release.len, out);
+        let text = profile.release;
+        let cells = text.bytes;
+        return emit_with(answer, &cells, text.len, out);
     }
     emit_answer(answer, b"", out)
 }

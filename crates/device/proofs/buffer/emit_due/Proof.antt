@@ -10,11 +10,14 @@ use Rattle.device.proofs.buffer.emit_due.Tie as tie
 text-command-requires : tie.Need-text-command-requires
 text-command-requires c κs = search needs
 
+slice-aggregate-emit-with : tie.Need-slice-aggregate-emit-with
+slice-aggregate-emit-with c = search needs
+
 emit-with-requires : tie.Need-emit-with-requires
 emit-with-requires c κs =
     let start = c .before .before .before .before .before .before .before in
-    let long : length (start .args .t1 .model .bytes) ≡ 40 = search needs in
-    rw long (short 40 (start .args .t1 .model .len) (textOf40 (start .args .t1 .model)) (allowed-profile (start .args .t1) (start .pre) .model))
+    let long : length (start .args .profile .model .bytes) ≡ 40 = search needs in
+    rw long (short 40 (start .args .profile .model .len) (textOf40 (start .args .profile .model)) (allowed-profile (start .args .profile) (start .pre) .model))
 
 same-length : tie.Need-same-length
 same-length c = search needs
@@ -23,13 +26,18 @@ returns : tie.Need-returns
 returns c =
     let start = c .before .before .before .before .before .before .before .before .before .before in
     let due = sym (c .before .before .before .before .before .before .before .before .text-command .ensures) ∙ c .before .before .before .before .before .before .before .if1 .taken in
-    rw (bytes-model (start .args .t1) (start .args .answer) due) (c .before .before .emit-with .ensures)
+    rw (bytes-model (start .args .profile) (start .args .answer) due) (c .before .before .emit-with .ensures)
+
+slice-aggregate-emit-with-2 : tie.Need-slice-aggregate-emit-with-2
+slice-aggregate-emit-with-2 c = search needs
+
+software-cells : (c : tie.After-text2) → length (c .before .before .before .before .before .args .profile .software .bytes) ≡ 40
+software-cells c = search needs
 
 emit-with-requires-2 : tie.Need-emit-with-requires-2
 emit-with-requires-2 c κs =
     let start = c .before .before .before .before .before .before .before .before in
-    let long : length (start .args .t1 .software .bytes) ≡ 40 = search needs in
-    rw long (short 40 (start .args .t1 .software .len) (textOf40 (start .args .t1 .software)) (allowed-profile (start .args .t1) (start .pre) .software))
+    rw (software-cells (c .before .before .before)) (short 40 (start .args .profile .software .len) (textOf40 (start .args .profile .software)) (allowed-profile (start .args .profile) (start .pre) .software))
 
 same-length-2 : tie.Need-same-length-2
 same-length-2 c = search needs
@@ -38,13 +46,18 @@ returns-2 : tie.Need-returns-2
 returns-2 c =
     let start = c .before .before .before .before .before .before .before .before .before .before .before in
     let due = sym (c .before .before .before .before .before .before .before .before .before .text-command .ensures) ∙ c .before .before .before .before .before .before .before .if2 .taken in
-    rw (bytes-software (start .args .t1) (start .args .answer) due) (c .before .before .emit-with2 .ensures)
+    rw (bytes-software (start .args .profile) (start .args .answer) due) (c .before .before .emit-with2 .ensures)
+
+slice-aggregate-emit-with-3 : tie.Need-slice-aggregate-emit-with-3
+slice-aggregate-emit-with-3 c = search needs
+
+serial-cells : (c : tie.After-text3) → length (c .before .before .before .before .before .before .args .profile .serial .bytes) ≡ 20
+serial-cells c = search needs
 
 emit-with-requires-3 : tie.Need-emit-with-requires-3
 emit-with-requires-3 c κs =
     let start = c .before .before .before .before .before .before .before .before .before in
-    let long : length (start .args .t1 .serial .bytes) ≡ 20 = search needs in
-    rw long (short 20 (start .args .t1 .serial .len) (textOf20 (start .args .t1 .serial)) (allowed-profile (start .args .t1) (start .pre) .serial))
+    rw (serial-cells (c .before .before .before)) (short 20 (start .args .profile .serial .len) (textOf20 (start .args .profile .serial)) (allowed-profile (start .args .profile) (start .pre) .serial))
 
 same-length-3 : tie.Need-same-length-3
 same-length-3 c = search needs
@@ -53,13 +66,18 @@ returns-3 : tie.Need-returns-3
 returns-3 c =
     let start = c .before .before .before .before .before .before .before .before .before .before .before .before in
     let due = sym (c .before .before .before .before .before .before .before .before .before .before .text-command .ensures) ∙ c .before .before .before .before .before .before .before .if3 .taken in
-    rw (bytes-serial (start .args .t1) (start .args .answer) due) (c .before .before .emit-with3 .ensures)
+    rw (bytes-serial (start .args .profile) (start .args .answer) due) (c .before .before .emit-with3 .ensures)
+
+slice-aggregate-emit-with-4 : tie.Need-slice-aggregate-emit-with-4
+slice-aggregate-emit-with-4 c = search needs
+
+release-cells : (c : tie.After-text4) → length (c .before .before .before .before .before .before .before .args .profile .release .bytes) ≡ 20
+release-cells c = search needs
 
 emit-with-requires-4 : tie.Need-emit-with-requires-4
 emit-with-requires-4 c κs =
     let start = c .before .before .before .before .before .before .before .before .before .before in
-    let long : length (start .args .t1 .release .bytes) ≡ 20 = search needs in
-    rw long (short 20 (start .args .t1 .release .len) (textOf20 (start .args .t1 .release)) (allowed-profile (start .args .t1) (start .pre) .release))
+    rw (release-cells (c .before .before .before)) (short 20 (start .args .profile .release .len) (textOf20 (start .args .profile .release)) (allowed-profile (start .args .profile) (start .pre) .release))
 
 same-length-4 : tie.Need-same-length-4
 same-length-4 c = search needs
@@ -68,7 +86,7 @@ returns-4 : tie.Need-returns-4
 returns-4 c =
     let start = c .before .before .before .before .before .before .before .before .before .before .before .before .before in
     let due = sym (c .before .before .before .before .before .before .before .before .before .before .before .text-command .ensures) ∙ c .before .before .before .before .before .before .before .if4 .taken in
-    rw (bytes-release (start .args .t1) (start .args .answer) due) (c .before .before .emit-with4 .ensures)
+    rw (bytes-release (start .args .profile) (start .args .answer) due) (c .before .before .emit-with4 .ensures)
 
 slice-aggregate-emit-answer : tie.Need-slice-aggregate-emit-answer
 slice-aggregate-emit-answer c = search needs
@@ -84,7 +102,7 @@ returns-5 c =
     let start = c .before .before .before .before .before .before .before .before .before .before .before in
     let is = c .before .before .before .before .before .before .before .before .before .text-command .ensures in
     let tests = c .before .before .before .before .before in
-    rw (bytes-plain (start .args .t1) (start .args .answer) (λ e. tests .before .before .before .if1 .left (is ∙ e)) (λ e. tests .before .before .if2 .left (is ∙ e)) (λ e. tests .before .if3 .left (is ∙ e)) (λ e. tests .if4 .left (is ∙ e)))
+    rw (bytes-plain (start .args .profile) (start .args .answer) (λ e. tests .before .before .before .if1 .left (is ∙ e)) (λ e. tests .before .before .if2 .left (is ∙ e)) (λ e. tests .before .if3 .left (is ∙ e)) (λ e. tests .if4 .left (is ∙ e)))
     (c .before .before .emit-answer .ensures)
 
 pub emit-due-spec : {M : Type 1} → statement M
@@ -92,15 +110,19 @@ emit-due-spec =
     tie.close
     (tie.spec
     text-command-requires
+    slice-aggregate-emit-with
     emit-with-requires
     same-length
     returns
+    slice-aggregate-emit-with-2
     emit-with-requires-2
     same-length-2
     returns-2
+    slice-aggregate-emit-with-3
     emit-with-requires-3
     same-length-3
     returns-3
+    slice-aggregate-emit-with-4
     emit-with-requires-4
     same-length-4
     returns-4

@@ -6,7 +6,7 @@ use native.Mathlib.Omega.{arith}
 use mathlib.Core.Path.{_≡_, refl}
 use mathlib.Core.Logic.{_⊎_, inl, inr, ⊎-elim}
 use mathlib.Core.Bool.{Bool, true, false, _&&_, _||_, true≢false}
-use borrow.Author.Tests.{leb-true, eqb-true}
+use borrow.Author.Tests.{leb-true, lt-leb, le-leb, eqb-true}
 use lib.Dec.{leb, eqb}
 use Rattle.weight.specs.declared.units.WeightUnit.{WeightUnit}
 use Rattle.weight.specs.declared.units.WeightUnit.the-variants.{G, Mg, Ct, Oz, Ozt, Gn, Dwt}
@@ -76,6 +76,16 @@ stepTest r = eqb (r .step) 1 || eqb (r .step) 2 || eqb (r .step) 5
 
 abbrev leastTest : Resolution → Bool
 leastTest r = leb (1000 * 10 ^ (r .decimals)) (r .step * nanogramsOf (r .unit))
+
+-- with more than six decimals none is allowed
+pub too-many-decimals : (r : Resolution) → 6 < r .decimals → false ≡ allowedResolution r
+unfolding allowedResolution
+too-many-decimals r h = simp (lt-leb (r .decimals) 6 h)
+
+-- with up to six the tests of the step decide
+pub few-decimals : (r : Resolution) → r .decimals ≤ 6 → (stepTest r && leastTest r) ≡ allowedResolution r
+unfolding allowedResolution
+few-decimals r h = simp (le-leb (r .decimals) 6 h)
 
 -- decimals 0 to 6
 pub allowed-decimals : (r : Resolution) → allowedResolution r ≡ true → r .decimals ≤ 6

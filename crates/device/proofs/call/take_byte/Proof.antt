@@ -1,6 +1,10 @@
 use mathlib.Core.Path.{sym, _∙_}
+use mathlib.Core.List.{List}
+use Prim.Native.Nat.{ℕ}
 use borrow.Author.Tests.{not-false}
 use borrow.Author.Needs.{needs}
+use Rattle.device.specs.declared.call.Called.{Called}
+use Rattle.device.specs.Calls.{delivered, Gives, ByteCalled}
 use Rattle.device.proofs.Refusals.{sent, unsent, byte-profile, byte-state, byte-delivered, byte-silent}
 use Rattle.device.proofs.call.take_byte.Statement.{statement}
 use Rattle.device.proofs.call.take_byte.Tie as tie
@@ -38,17 +42,22 @@ taken-requires c κs = search needs
 same-length : tie.Need-same-length
 same-length c = search needs
 
+-- whatever the buffer made of the reaction, the call gives that
+delivered-at : (c : tie.After-line-reaction) {r : Called} {buffer : List ℕ} →
+    let given = c .before .before .before .before .before .before .before .before .before .args in
+    Gives (delivered (given .profile) (given .state) (c .line-reaction .result) (given .out .now)) r buffer
+    → ByteCalled (given .profile) (given .state) (given .byte) (given .faulty) (given .out .now) r buffer
+delivered-at c promised =
+    let ended = c .before in
+    let passed = ended .before .before .before in
+    byte-delivered _ _ _ _ _ (passed .before .before .before .is-profile-allowed .ensures) (passed .before .before .if1 .left) (passed .before .is-state-allowed .ensures)
+    (ended .before .receive-byte .ensures) (ended .if3 .taken) (passed .if2 .left) (c .line-reaction .ensures) promised
+
 returns-3 : tie.Need-returns-3
 returns-3 c =
     let fitted = c .before .before in
     let laid = fitted .before .before .before in
-    let reacted = laid .before .before in
-    let ended = reacted .before in
-    let passed = ended .before .before .before in
-    let start = passed .before .before .before in
-    byte-delivered _ _ _ _ _ (start .is-profile-allowed .ensures) (passed .before .before .if1 .left) (passed .before .is-state-allowed .ensures)
-    (ended .before .receive-byte .ensures) (ended .if3 .taken) (passed .if2 .left) (reacted .line-reaction .ensures)
-    (sent _ _ _ _ (laid .emit-due .ensures .0) (laid .emit-due .ensures .1) (fitted .if4 .taken) (c .taken .ensures))
+    delivered-at (laid .before .before) (sent _ _ _ _ (laid .emit-due .ensures .0) (laid .emit-due .ensures .1) (fitted .if4 .taken) (c .taken .ensures))
 
 refused-requires-3 : tie.Need-refused-requires-3
 refused-requires-3 c κs = search needs
@@ -60,13 +69,7 @@ returns-4 : tie.Need-returns-4
 returns-4 c =
     let unfit = c .before in
     let laid = unfit .before .before .before in
-    let reacted = laid .before .before in
-    let ended = reacted .before in
-    let passed = ended .before .before .before in
-    let start = passed .before .before .before in
-    byte-delivered _ _ _ _ _ (start .is-profile-allowed .ensures) (passed .before .before .if1 .left) (passed .before .is-state-allowed .ensures)
-    (ended .before .receive-byte .ensures) (ended .if3 .taken) (passed .if2 .left) (reacted .line-reaction .ensures)
-    (unsent _ _ _ _ (laid .emit-due .ensures .0) (laid .emit-due .ensures .1) (unfit .if4 .left) (c .refused3 .ensures))
+    delivered-at (laid .before .before) (unsent _ _ _ _ (laid .emit-due .ensures .0) (laid .emit-due .ensures .1) (unfit .if4 .left) (c .refused3 .ensures))
 
 with-line-requires : tie.Need-with-line-requires
 with-line-requires c κs = search needs

@@ -1,6 +1,10 @@
 use mathlib.Core.Path.{sym, _∙_}
+use mathlib.Core.List.{List}
+use Prim.Native.Nat.{ℕ}
 use borrow.Author.Tests.{not-false}
 use borrow.Author.Needs.{needs}
+use Rattle.device.specs.declared.call.Called.{Called}
+use Rattle.device.specs.Calls.{delivered, Gives, SampleCalled}
 use Rattle.device.proofs.Refusals.{sent, unsent, sample-profile, sample-state, sample-delivered, sample-silent}
 use Rattle.device.proofs.call.take_sample.Statement.{statement}
 use Rattle.device.proofs.call.take_sample.Tie as tie
@@ -38,16 +42,21 @@ taken-requires c κs = search needs
 same-length : tie.Need-same-length
 same-length c = search needs
 
+-- whatever the buffer made of the reaction, the call gives that
+delivered-at : (c : tie.After-sample-reaction) {r : Called} {buffer : List ℕ} →
+    let given = c .before .before .before .before .before .before .before .before .args in
+    Gives (delivered (given .profile) (given .state) (c .sample-reaction .result) (given .out .now)) r buffer
+    → SampleCalled (given .profile) (given .state) (given .load) (given .stable) (given .out .now) r buffer
+delivered-at c promised =
+    let passed = c .before .before .before in
+    sample-delivered _ _ _ _ _ (passed .before .before .before .is-profile-allowed .ensures) (passed .before .before .if1 .left) (passed .before .is-state-allowed .ensures)
+    (passed .if2 .left) (c .sample-reaction .ensures) promised
+
 returns-3 : tie.Need-returns-3
 returns-3 c =
     let fitted = c .before .before in
     let laid = fitted .before .before .before in
-    let reacted = laid .before .before in
-    let passed = reacted .before .before .before in
-    let start = passed .before .before .before in
-    sample-delivered _ _ _ _ _ (start .is-profile-allowed .ensures) (passed .before .before .if1 .left) (passed .before .is-state-allowed .ensures)
-    (passed .if2 .left) (reacted .sample-reaction .ensures)
-    (sent _ _ _ _ (laid .emit-due .ensures .0) (laid .emit-due .ensures .1) (fitted .if4 .taken) (c .taken .ensures))
+    delivered-at (laid .before .before) (sent _ _ _ _ (laid .emit-due .ensures .0) (laid .emit-due .ensures .1) (fitted .if4 .taken) (c .taken .ensures))
 
 refused-requires-3 : tie.Need-refused-requires-3
 refused-requires-3 c κs = search needs
@@ -59,12 +68,7 @@ returns-4 : tie.Need-returns-4
 returns-4 c =
     let unfit = c .before in
     let laid = unfit .before .before .before in
-    let reacted = laid .before .before in
-    let passed = reacted .before .before .before in
-    let start = passed .before .before .before in
-    sample-delivered _ _ _ _ _ (start .is-profile-allowed .ensures) (passed .before .before .if1 .left) (passed .before .is-state-allowed .ensures)
-    (passed .if2 .left) (reacted .sample-reaction .ensures)
-    (unsent _ _ _ _ (laid .emit-due .ensures .0) (laid .emit-due .ensures .1) (unfit .if4 .left) (c .refused3 .ensures))
+    delivered-at (laid .before .before) (unsent _ _ _ _ (laid .emit-due .ensures .0) (laid .emit-due .ensures .1) (unfit .if4 .left) (c .refused3 .ensures))
 
 sampled-requires : tie.Need-sampled-requires
 sampled-requires c κs = search needs

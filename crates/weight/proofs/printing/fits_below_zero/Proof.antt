@@ -5,17 +5,16 @@ use mathlib.Core.Bool.{true}
 use Prim.Native.Nat.{_*_, _≤_}
 use native.Mathlib.Omega.{arith}
 use borrow.Author.Needs.{needs}
-use borrow.Author.Tests.{not-true, not-false, lt-leb, le-leb}
+use borrow.Author.Tests.{not-true, not-false}
 use mir.Facts.{fits-lt-pow}
 use Rattle.weight.specs.Rounding.{allowedResolution}
-use Rattle.weight.proofs.Allowed.{nanograms-limit, allowed-divisor-limit}
+use Rattle.weight.proofs.Allowed.{too-many-decimals, few-decimals, nanograms-limit, allowed-divisor-limit}
 use Rattle.weight.proofs.BelowZero.{scaled-limit, below-zero-test}
 use Rattle.weight.proofs.printing.fits_below_zero.Statement.{statement}
 use Rattle.weight.proofs.printing.fits_below_zero.Tie as tie
 
 returns : tie.Need-returns
-unfolding allowedResolution
-returns c = simp (lt-leb (c .before .before .args .resolution .decimals) 6 (c .if1 .taken))
+returns c = rw (← too-many-decimals (c .before .before .args .resolution) (c .if1 .taken))
 
 scale-of-requires : tie.Need-scale-of-requires
 scale-of-requires c κs = search needs
@@ -28,10 +27,10 @@ is-step-allowed-requires c κs = search needs
 
 -- the test of the step is that of the resolution
 tested-at : (c : tie.After-is-step-allowed) → c .is-step-allowed .result ≡ allowedResolution (c .before .before .before .before .before .args .resolution)
-unfolding allowedResolution
 tested-at c =
     let few = c .before .before .before in
-    simp (c .is-step-allowed .ensures, le-leb (few .before .before .args .resolution .decimals) 6 (few .if1 .left), c .before .before .scale-of .ensures, c .before .divisor-of .ensures)
+    rw (c .is-step-allowed .ensures, c .before .before .scale-of .ensures, c .before .divisor-of .ensures)
+    (few-decimals (few .before .before .args .resolution) (few .if1 .left))
 
 returns-2 : tie.Need-returns-2
 returns-2 c = rw (sym (tested-at (c .before)) ∙ not-true _ (c .if2 .taken))

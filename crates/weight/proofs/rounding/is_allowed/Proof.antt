@@ -1,14 +1,12 @@
 -- `weight::rounding::is_allowed` meets its contract.
 -- Assumes nothing.
 use borrow.Author.Needs.{needs}
-use borrow.Author.Tests.{lt-leb, le-leb}
-use Rattle.weight.specs.Rounding.{allowedResolution}
+use Rattle.weight.proofs.Allowed.{too-many-decimals, few-decimals}
 use Rattle.weight.proofs.rounding.is_allowed.Statement.{statement}
 use Rattle.weight.proofs.rounding.is_allowed.Tie as tie
 
 returns : tie.Need-returns
-unfolding allowedResolution
-returns c = simp (lt-leb (c .before .before .args .resolution .decimals) 6 (c .if1 .taken))
+returns c = search (needs, too-many-decimals)
 
 scale-of-requires : tie.Need-scale-of-requires
 scale-of-requires c κs = search needs
@@ -20,10 +18,10 @@ is-step-allowed-requires : tie.Need-is-step-allowed-requires
 is-step-allowed-requires c κs = search needs
 
 returns-2 : tie.Need-returns-2
-unfolding allowedResolution
 returns-2 c =
     let few = c .before .before .before in
-    simp (c .is-step-allowed .ensures, le-leb (few .before .before .args .resolution .decimals) 6 (few .if1 .left), c .before .before .scale-of .ensures, c .before .divisor-of .ensures)
+    rw (c .is-step-allowed .ensures, c .before .before .scale-of .ensures, c .before .divisor-of .ensures)
+    (few-decimals (few .before .before .args .resolution) (few .if1 .left))
 
 pub is-allowed-spec : {M : Type 1} → statement M
 is-allowed-spec =

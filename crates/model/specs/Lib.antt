@@ -1,4 +1,5 @@
 pub mod Groups
 pub mod Profiles
 pub mod Refusals
+pub mod Sendings
 pub mod States

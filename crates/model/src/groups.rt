@@ -1,6 +1,8 @@
 // The groups of the state, each put back alone.
 ghost use mathlib.Core.Path.{_≡_};
 ghost use Rattle.model.specs.Groups as meaning;
+use crate::sending::Mode;
+use crate::sending::Sending;
 use crate::state::Display;
 use crate::state::State;
 use crate::state::Waiting;
@@ -13,11 +15,12 @@ pub fn with_line(state: State, line: Line) -> State
     let weighing = state.weighing;
     let waiting = state.waiting;
     let display = state.display;
+    let sending = state.sending;
     State {
         line,
         weighing,
         waiting,
-        repeating: state.repeating,
+        sending,
         display,
     }
 }
@@ -28,11 +31,12 @@ pub fn with_weighing(state: State, weighing: Weighing) -> State
     let line = state.line;
     let waiting = state.waiting;
     let display = state.display;
+    let sending = state.sending;
     State {
         line,
         weighing,
         waiting,
-        repeating: state.repeating,
+        sending,
         display,
     }
 }
@@ -43,17 +47,18 @@ pub fn with_waiting(state: State, waiting: Waiting) -> State
     let line = state.line;
     let weighing = state.weighing;
     let display = state.display;
+    let sending = state.sending;
     State {
         line,
         weighing,
         waiting,
-        repeating: state.repeating,
+        sending,
         display,
     }
 }
 
-pub fn with_repeating(state: State, repeating: bool) -> State
-    ensures { λ r. ⌜ r ≡ meaning.withRepeating state repeating ⌝ }
+pub fn with_sending(state: State, sending: Sending) -> State
+    ensures { λ r. ⌜ r ≡ meaning.withSending state sending ⌝ }
 {
     let line = state.line;
     let weighing = state.weighing;
@@ -63,7 +68,7 @@ pub fn with_repeating(state: State, repeating: bool) -> State
         line,
         weighing,
         waiting,
-        repeating,
+        sending,
         display,
     }
 }
@@ -74,11 +79,27 @@ pub fn with_display(state: State, display: Display) -> State
     let line = state.line;
     let weighing = state.weighing;
     let waiting = state.waiting;
+    let sending = state.sending;
     State {
         line,
         weighing,
         waiting,
-        repeating: state.repeating,
+        sending,
         display,
+    }
+}
+
+// What SR keeps stays, and does not count unless it runs.
+pub fn with_mode(sending: Sending, mode: Mode) -> Sending
+    ensures { λ r. ⌜ r ≡ meaning.withMode sending mode ⌝ }
+{
+    let last = sending.last;
+    let threshold = sending.threshold;
+    Sending {
+        last,
+        threshold,
+        mode,
+        owed: sending.owed,
+        outside: sending.outside,
     }
 }

@@ -2,25 +2,32 @@
 ghost use mathlib.Core.Path.{_≡_};
 ghost use mathlib.Core.Bool.{not, _||_};
 ghost use Rattle.model.specs.Profiles.{textAllowed20};
-ghost use Rattle.model.specs.States.{isPending, stateAllowed, startState};
+ghost use Rattle.model.specs.States.{isPending, isChange, stateAllowed, startState};
 use crate::profile::Profile;
 use crate::profile::Text20;
 use crate::profile::is_text_allowed20;
+use crate::sending::Mode;
+use crate::sending::Sending;
+use crate::sending::is_change_allowed;
+use crate::sending::is_off;
 use crate::weighing::Weighing;
 use line::LINE_LIMIT;
 use line::Line;
+use weight::Micrograms;
 use weight::NO_LOAD;
 use weight::NO_TARE;
+use weight::NO_THRESHOLD;
 use weight::from_load;
 use weight::is_tare_within;
 use weight::is_within;
 
-// The command that waits for a stable sample: S, Z or T.
+// The command that waits for a stable sample: S, Z, T or SR.
 pub enum Pending {
     Nothing,
     Weigh,
     Zero,
     Tare,
+    Change,
 }
 
 pub struct Waiting {
@@ -36,12 +43,11 @@ pub struct Display {
 }
 
 pub struct State {
+    pub sending: Sending,
     pub line: Line,
     pub weighing: Weighing,
     pub waiting: Waiting,
     pub display: Display,
-    // Document 01's repetition: each sample is answered, as SIR asked.
-    pub repeating: bool,
 }
 
 pub fn is_pending(pending: Pending) -> bool
@@ -52,6 +58,20 @@ pub fn is_pending(pending: Pending) -> bool
         Pending::Weigh => true,
         Pending::Zero => true,
         Pending::Tare => true,
+        Pending::Change => true,
+    }
+}
+
+// Whether SR waits.
+fn is_change(pending: Pending) -> bool
+    ensures { λ r. ⌜ r ≡ isChange pending ⌝ }
+{
+    match pending {
+        Pending::Nothing => false,
+        Pending::Weigh => false,
+        Pending::Zero => false,
+        Pending::Tare => false,
+        Pending::Change => true,
     }
 }
 
@@ -74,13 +94,21 @@ pub fn is_state_allowed(profile: Profile, state: State) -> bool
     let waiting = state.waiting;
     let pending = waiting.pending;
     let display = state.display;
+    let sending = state.sending;
+    let mode = sending.mode;
     let patient = !is_pending(pending) | (waiting.unstable < profile.timeout);
     is_within(from_load(zero), profile.zeroing)
         & is_tare_within(tare, profile.capacity)
         & (state.line.len <= LINE_LIMIT)
         & is_display_allowed(display)
         & patient
-        & (!state.repeating | weighing.sampled)
+        & (is_off(mode) | weighing.sampled)
+        & is_change_allowed(
+            profile.underload,
+            profile.capacity,
+            sending,
+            is_change(pending),
+        )
 }
 
 // What power-on returns.
@@ -109,11 +137,18 @@ pub fn start_state() -> State
     };
     let text = Text20 { bytes, len: 0 };
     let display = Display { shown: false, text };
+    let sending = Sending {
+        last: Micrograms(0),
+        threshold: NO_THRESHOLD,
+        mode: Mode::Off,
+        owed: false,
+        outside: false,
+    };
     State {
         line,
         weighing,
         waiting,
-        repeating: false,
+        sending,
         display,
     }
 }

@@ -1,12 +1,16 @@
--- Loads and tares have 32 bits: gross and net stay far within a signed word, and the size of a gross has 32 bits too.
+-- Loads and tares have 32 bits: gross and net stay far within a signed word, and the size of a gross has 32 bits too. So does the
+-- difference of two nets in their range.
 -- Assumes nothing.
 use Prim.Native.Nat.{ℕ, _+_, _<_, _≤_, _^_}
 use mathlib.Core.Path.{_≡_}
+use mathlib.Core.Bool.{true}
 use native.Mathlib.Omega.{arith}
+use borrow.Author.Tests.{leb-true}
 use lib.IntN.{ℤ, pos, negsuc, natAbs, _-ℤ_}
 use mir.Syntax.{w32, w64}
 use mir.Val.{Fits, SFits}
 use mir.Facts.{fits-lt-pow}
+use Rattle.weight.specs.Rounding.{inRange, netLimit}
 use Rattle.weight.proofs.Nearness.{up, down, difference-parts}
 
 size-parts : (z : ℤ) → natAbs z ≡ up z + down z
@@ -57,3 +61,15 @@ module _ (load zero : ℤ) (f : SFits w32 load) (g : SFits w32 zero) where
       (omega (arith, size-parts gross, gross-size))
       in
       small-fits (gross -ℤ pos tare) (omega arith)
+
+module _ (a b : ℤ) (f : inRange a ≡ true) (g : inRange b ≡ true) where
+  pub distance-limit : natAbs (a -ℤ b) ≤ 10_000_000_000
+  distance-limit =
+      let first = leb-true (natAbs a) netLimit f in
+      let second = leb-true (natAbs b) netLimit g in
+      balanced-size (a -ℤ b) (down a + up b) (up a + down b) 10_000_000_000 (difference-parts a b)
+      (omega (arith, first, second, size-parts a, size-parts b))
+      (omega (arith, first, second, size-parts a, size-parts b))
+
+  pub distance-fits : SFits w64 (a -ℤ b)
+  distance-fits = small-fits (a -ℤ b) (omega (arith, distance-limit))

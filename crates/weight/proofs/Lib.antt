@@ -8,6 +8,7 @@ mod HalfUp
 pub mod Machine
 pub mod Matching
 pub mod Monotone
+pub mod Moves
 pub mod Nearness
 mod Nearest
 mod Printable

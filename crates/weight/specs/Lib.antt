@@ -1,4 +1,5 @@
 pub mod Amounts
+pub mod Changes
 pub mod Characters
 pub mod Places
 pub mod Printing

@@ -1,6 +1,7 @@
 // The arithmetic of weights: units, gross and net, the rounding of a weight to display steps, whether a number fits ten
 // characters, and typed amounts. Every conversion between the counts that have a type of their own is here. The crates above use the promises of the functions named here and the laws of proofs/.
 mod amount;
+mod changes;
 mod integer;
 mod limits;
 mod loads;
@@ -12,8 +13,14 @@ mod units;
 pub use amount::Tare;
 pub use amount::Typed;
 pub use amount::typed_amount;
+pub use changes::NO_THRESHOLD;
+pub use changes::Threshold;
+pub use changes::has_moved;
+pub use changes::threshold_of;
+pub use limits::is_net_within;
 pub use limits::is_over;
 pub use limits::is_tare_within;
+pub use limits::is_threshold_within;
 pub use limits::is_under;
 pub use limits::is_within;
 pub use loads::Load;

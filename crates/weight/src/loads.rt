@@ -40,7 +40,7 @@ pub fn from_tare(tare: Tare) -> Micrograms
     from_count(tare.0)
 }
 
-fn minus(a: Micrograms, b: Micrograms) -> Micrograms
+pub fn minus(a: Micrograms, b: Micrograms) -> Micrograms
     requires { ⌜ SFits w64 (a .0 -ℤ b .0) ⌝ }
     ensures { λ r. ⌜ r .0 ≡ a .0 -ℤ b .0 ⌝ }
 {

@@ -21,7 +21,7 @@ pub struct Printed {
 }
 
 // More micrograms than a load with a zero and a tare in their ranges can give.
-const NET_LIMIT: u64 = 5_000_000_000;
+pub const NET_LIMIT: u64 = 5_000_000_000;
 
 // Twice 10^8: beside a minus and a point ten characters hold eight digits.
 const TWICE_PLACES_LIMIT: u64 = 200_000_000;

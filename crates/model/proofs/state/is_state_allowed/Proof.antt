@@ -1,7 +1,7 @@
 -- `model::state::is_state_allowed` meets its contract.
 -- Assumes nothing.
 use borrow.Author.Needs.{needs}
-use Rattle.model.specs.States.{stateAllowed}
+use Rattle.model.proofs.StateTested.{state-tested}
 use Rattle.model.proofs.state.is_state_allowed.Statement.{statement}
 use Rattle.model.proofs.state.is_state_allowed.Tie as tie
 
@@ -20,18 +20,17 @@ is-tare-within-requires c κs = search needs
 is-display-allowed-requires : tie.Need-is-display-allowed-requires
 is-display-allowed-requires c κs = search needs
 
+is-off-requires : tie.Need-is-off-requires
+is-off-requires c κs = search needs
+
+is-change-requires : tie.Need-is-change-requires
+is-change-requires c κs = search needs
+
+is-change-allowed-requires : tie.Need-is-change-allowed-requires
+is-change-allowed-requires c κs = search needs
+
 returns : tie.Need-returns
-unfolding stateAllowed
-returns c =
-    let tares = c .before .before .before .before in
-    let zeros = tares .before in
-    simp (
-      c .before .before .is-display-allowed .ensures,
-      tares .is-tare-within .ensures,
-      zeros .is-within .ensures,
-      zeros .before .from-load .ensures,
-      zeros .before .before .before .before .is-pending .ensures,
-    )
+returns c = search (needs, state-tested)
 
 pub is-state-allowed-spec : {M : Type 1} → statement M
 is-state-allowed-spec =
@@ -42,4 +41,7 @@ is-state-allowed-spec =
     is-within-requires
     is-tare-within-requires
     is-display-allowed-requires
+    is-off-requires
+    is-change-requires
+    is-change-allowed-requires
     returns)

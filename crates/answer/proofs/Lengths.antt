@@ -113,8 +113,8 @@ pub listed-length : (last : Bool) (c : ℕ) (t : List ℕ) → length (lineOf (L
 unfolding lineOf listedLine
 listed-length last c t = listed-parts (cond last (ascii "A") (ascii "B")) (digit (levelOf c) ∷ []) (nameOf c) (mark-length last) refl
 
--- all lines of I0: document 01's 231 bytes
-pub list-length : (t : List ℕ) → length (lineOf CommandList t) ≡ 231
+-- all lines of I0: document 01's 231 bytes and 13 of SR
+pub list-length : (t : List ℕ) → length (lineOf CommandList t) ≡ 244
 unfolding lineOf listedFrom listedLine
 list-length t = refl
 
@@ -139,6 +139,6 @@ pub list-first : (t : List ℕ) → take 13 (lineOf CommandList t) ≡ ascii "I0
 unfolding lineOf listedFrom listedLine
 list-first t = refl
 
-pub list-last : (t : List ℕ) → drop 218 (lineOf CommandList t) ≡ ascii "I0 A 1 \"TI\"\r\n"
+pub list-last : (t : List ℕ) → drop 231 (lineOf CommandList t) ≡ ascii "I0 A 1 \"TI\"\r\n"
 unfolding lineOf listedFrom listedLine
 list-last t = refl

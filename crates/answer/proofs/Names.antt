@@ -3,11 +3,11 @@
 use mathlib.Core.Path.{_≡_, refl, sym, ap, _∙_}
 use mathlib.Core.Bool.{Bool, true, false, cond, _&&_, and-eq-true-iff, false≢true}
 use mathlib.Core.List.{List, [], _∷_}
-use Prim.Native.Nat.{ℕ, zero, suc, _+_, _≤_, _<_, zero-le}
+use Prim.Native.Nat.{ℕ, zero, suc, _+_, _-_, _*_, _≤_, _<_, zero-le}
 use mathlib.Core.Logic.{⊎-elim}
 use native.Mathlib.Nat.{eq-or-lt-of-le, le-of-suc-le-suc, not-suc-le-zero, add-zero, add-suc, suc-add, zero-add}
 use native.Mathlib.Omega.{arith}
-use borrow.Author.Tests.{eqb-true, ne-eqb, leb-true}
+use borrow.Author.Tests.{eqb-true, ne-eqb, leb-true, le-leb, lt-leb}
 use lib.Dec.{leb, eqb}
 use lib.ListN.{length, take, getD, List·getD-eq-default}
 use lib.Seq.{take-all}
@@ -114,6 +114,15 @@ pub no-bytes : (w : List ℕ) → length w ≡ 0 → 0 ≡ endsOf w
 unfolding endsOf
 no-bytes [] h = refl
 no-bytes (c ∷ w) h = absurd (omega arith)
+
+-- and so has one of over three
+pub too-long : (w : List ℕ) → 3 < length w → 0 ≡ endsOf w
+unfolding endsOf
+too-long w h = rw (lt-leb (length w) 3 h)
+
+pub short-ends : (w : List ℕ) → length w ≤ 3 → length w * 65536 + getD w 0 0 * 256 + getD w (length w - 1) 0 ≡ endsOf w
+unfolding endsOf
+short-ends w h = rw (le-leb (length w) 3 h)
 
 -- what a match says of a number that none of its arms names, the first arm innermost
 abbrev NoneIn : List ℕ → ℕ → Type 0 → Type 0

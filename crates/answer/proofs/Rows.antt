@@ -11,7 +11,7 @@ use lib.Dec.{leb, ltb, eqb}
 use lib.ListN.{length, getD, List·getD-eq-default}
 use Rattle.weight.proofs.Allowed.{both-left, both-right}
 use Rattle.answer.specs.declared.command.Kind.{Kind}
-use Rattle.answer.specs.declared.command.Kind.the-variants.{Informs, Weighs, Zeroes, Resets, Shows, Tares, Unknown}
+use Rattle.answer.specs.declared.command.Kind.the-variants.{Informs, Weighs, Zeroes, Resets, Shows, Sends, Tares, Unknown}
 use Rattle.answer.specs.Commands.{
   Command,
   commands,
@@ -32,6 +32,7 @@ use Rattle.answer.specs.Commands.{
   placeReset,
   placeD,
   placeDW,
+  placeSR,
   placeT,
   placeTA,
   placeTI,
@@ -46,6 +47,7 @@ use Rattle.answer.specs.Commands.{
   isReset,
   isD,
   isDW,
+  isSR,
   isT,
   isTA,
   isTAC,
@@ -124,10 +126,10 @@ same-is true false e = absurd (false≢true e)
 same-is false true e = absurd (false≢true e)
 same-is false false e = refl
 
-pub parameters-are : (c : ℕ) → (isD c || isTA c) ≡ takesParameters c
+pub parameters-are : (c : ℕ) → (isD c || isSR c || isTA c) ≡ takesParameters c
 parameters-are =
-    row-value same same-is (λ c. isD c || isTA c) (λ r. r .parameters) refl
-    (λ c past. rw (past-all c placeD (omega arith) past, past-all c placeTA (omega arith) past))
+    row-value same same-is (λ c. isD c || isSR c || isTA c) (λ r. r .parameters) refl
+    (λ c past. rw (past-all c placeD (omega arith) past, past-all c placeSR (omega arith) past, past-all c placeTA (omega arith) past))
 
 pub samples-are : (c : ℕ) → (isSI c || isSIR c || isZI c || isTI c) ≡ needsSample c
 samples-are =
@@ -139,10 +141,15 @@ samples-are =
       past-all c placeTI (omega arith) past,
     ))
 
-pub waits-are : (c : ℕ) → (isS c || isZ c || isT c) ≡ mayWait c
+pub waits-are : (c : ℕ) → (isS c || isZ c || isSR c || isT c) ≡ mayWait c
 waits-are =
-    row-value same same-is (λ c. isS c || isZ c || isT c) (λ r. r .waits) refl
-    (λ c past. rw (past-all c placeS (omega arith) past, past-all c placeZ (omega arith) past, past-all c placeT (omega arith) past))
+    row-value same same-is (λ c. isS c || isZ c || isSR c || isT c) (λ r. r .waits) refl
+    (λ c past. rw (
+      past-all c placeS (omega arith) past,
+      past-all c placeZ (omega arith) past,
+      past-all c placeSR (omega arith) past,
+      past-all c placeT (omega arith) past,
+    ))
 
 -- ---- kind
 
@@ -152,11 +159,12 @@ numberOfKind Weighs = 1
 numberOfKind Zeroes = 2
 numberOfKind Resets = 3
 numberOfKind Shows = 4
-numberOfKind Tares = 5
-numberOfKind Unknown = 6
+numberOfKind Sends = 5
+numberOfKind Tares = 6
+numberOfKind Unknown = 7
 
 abbrev kinds : List Kind
-kinds = Informs ∷ Weighs ∷ Zeroes ∷ Resets ∷ Shows ∷ Tares ∷ []
+kinds = Informs ∷ Weighs ∷ Zeroes ∷ Resets ∷ Shows ∷ Sends ∷ Tares ∷ []
 
 kind-back : (k : Kind) → getD kinds (numberOfKind k) Unknown ≡ k
 kind-back Informs = refl
@@ -164,6 +172,7 @@ kind-back Weighs = refl
 kind-back Zeroes = refl
 kind-back Resets = refl
 kind-back Shows = refl
+kind-back Sends = refl
 kind-back Tares = refl
 kind-back Unknown = refl
 
@@ -179,7 +188,7 @@ kindIn c =
     cond (leb c placeI5) Informs
     (cond (leb c placeSIR) Weighs
     (cond (leb c placeZI) Zeroes
-    (cond (leb c placeReset) Resets (cond (leb c placeDW) Shows (cond (leb c placeTI) Tares Unknown)))))
+    (cond (leb c placeReset) Resets (cond (leb c placeDW) Shows (cond (leb c placeSR) Sends (cond (leb c placeTI) Tares Unknown))))))
 
 kind-is : (c : ℕ) → kindIn c ≡ kindOf c
 kind-is =
@@ -190,6 +199,7 @@ kind-is =
       lt-leb c placeZI (omega arith),
       lt-leb c placeReset (omega arith),
       lt-leb c placeDW (omega arith),
+      lt-leb c placeSR (omega arith),
       lt-leb c placeTI (omega arith),
     ))
 
@@ -215,8 +225,8 @@ module _ (c : ℕ) where
               rw (← (kind-is c), lt-leb c placeI5 i, lt-leb c placeSIR w, lt-leb c placeZI z, lt-leb c placeReset r, le-leb c placeDW h)
 
           module _ (d : placeDW < c) where
-            pub tares-to : c ≤ placeTI → Tares ≡ kindOf c
-            tares-to h =
+            pub sends-to : c ≤ placeSR → Sends ≡ kindOf c
+            sends-to h =
                 rw (
                   ← (kind-is c),
                   lt-leb c placeI5 i,
@@ -224,20 +234,35 @@ module _ (c : ℕ) where
                   lt-leb c placeZI z,
                   lt-leb c placeReset r,
                   lt-leb c placeDW d,
-                  le-leb c placeTI h,
+                  le-leb c placeSR h,
                 )
 
-            pub unknown-from : placeTI < c → Unknown ≡ kindOf c
-            unknown-from t =
-                rw (
-                  ← (kind-is c),
-                  lt-leb c placeI5 i,
-                  lt-leb c placeSIR w,
-                  lt-leb c placeZI z,
-                  lt-leb c placeReset r,
-                  lt-leb c placeDW d,
-                  lt-leb c placeTI t,
-                )
+            module _ (s : placeSR < c) where
+              pub tares-to : c ≤ placeTI → Tares ≡ kindOf c
+              tares-to h =
+                  rw (
+                    ← (kind-is c),
+                    lt-leb c placeI5 i,
+                    lt-leb c placeSIR w,
+                    lt-leb c placeZI z,
+                    lt-leb c placeReset r,
+                    lt-leb c placeDW d,
+                    lt-leb c placeSR s,
+                    le-leb c placeTI h,
+                  )
+
+              pub unknown-from : placeTI < c → Unknown ≡ kindOf c
+              unknown-from t =
+                  rw (
+                    ← (kind-is c),
+                    lt-leb c placeI5 i,
+                    lt-leb c placeSIR w,
+                    lt-leb c placeZI z,
+                    lt-leb c placeReset r,
+                    lt-leb c placeDW d,
+                    lt-leb c placeSR s,
+                    lt-leb c placeTI t,
+                  )
 
 -- ---- the commands of a kind
 
@@ -272,6 +297,9 @@ module _ (c : ℕ) (known : c < commandCount) where
 
   pub showing-is : kindOf c ≡ Shows → (isD c || isDW c) ≡ true
   showing-is = of-kind Shows (λ i. isD i || isDW i) refl c known
+
+  pub sending-is : kindOf c ≡ Sends → isSR c ≡ true
+  sending-is = of-kind Sends isSR refl c known
 
   pub taring-is : kindOf c ≡ Tares → (isT c || isTA c || isTAC c || isTI c) ≡ true
   taring-is = of-kind Tares (λ i. isT i || isTA i || isTAC i || isTI i) refl c known

@@ -7,7 +7,7 @@ use mathlib.Core.List.{List, [], _∷_, map}
 use lib.Dec.{leb, eqb}
 use lib.ListN.{length, getD}
 use Rattle.answer.specs.declared.command.Kind.{Kind}
-use Rattle.answer.specs.declared.command.Kind.the-variants.{Informs, Weighs, Zeroes, Resets, Shows, Tares, Unknown}
+use Rattle.answer.specs.declared.command.Kind.the-variants.{Informs, Weighs, Zeroes, Resets, Shows, Sends, Tares, Unknown}
 use Rattle.text.specs.Ascii.{ascii, sameText}
 
 -- ---- the table
@@ -49,6 +49,7 @@ commands =
     ∷ command "@" 0 Resets no no no
     ∷ command "D" 1 Shows yes no no
     ∷ command "DW" 1 Shows no no no
+    ∷ command "SR" 1 Sends yes no yes
     ∷ command "T" 1 Tares no no yes
     ∷ command "TA" 1 Tares yes no no
     ∷ command "TAC" 1 Tares no no no
@@ -142,8 +143,11 @@ placeD = suc placeReset
 abbrev pub placeDW : ℕ
 placeDW = suc placeD
 
+abbrev pub placeSR : ℕ
+placeSR = suc placeDW
+
 abbrev pub placeT : ℕ
-placeT = suc placeDW
+placeT = suc placeSR
 
 abbrev pub placeTA : ℕ
 placeTA = suc placeT
@@ -200,6 +204,9 @@ isD c = eqb c placeD
 abbrev pub isDW : ℕ → Bool
 isDW c = eqb c placeDW
 
+abbrev pub isSR : ℕ → Bool
+isSR c = eqb c placeSR
+
 abbrev pub isT : ℕ → Bool
 isT c = eqb c placeT
 
@@ -218,9 +225,9 @@ hasText c = leb placeI2 c && leb c placeI5
 
 -- ---- how a name is looked for
 
--- a word's first and last byte
+-- a word's length, first and last byte, and 0 for a word of over three bytes, which is no name
 unfoldable pub endsOf : List ℕ → ℕ
-endsOf w = getD w 0 0 * 256 + getD w (length w - 1) 0
+endsOf w = cond (leb (length w) 3) (length w * 65536 + getD w 0 0 * 256 + getD w (length w - 1) 0) 0
 
 abbrev pub allEnds : List (List ℕ) → List ℕ
 allEnds [] = []

@@ -38,7 +38,9 @@ pub const D: u8 = RESET + 1;
 
 pub const DW: u8 = D + 1;
 
-pub const T: u8 = DW + 1;
+pub const SR: u8 = DW + 1;
+
+pub const T: u8 = SR + 1;
 
 pub const TA: u8 = T + 1;
 
@@ -54,17 +56,18 @@ pub const NONE: u8 = LAST + 1;
 // A line of I0 has its name and this many bytes; all of them together have the names' letters, too.
 pub const LISTED_LENGTH: usize = 11;
 
-const LETTERS: usize = 33;
+const LETTERS: usize = 35;
 
 pub const LIST_LENGTH: usize = NONE as usize * LISTED_LENGTH + LETTERS;
 
-// What a command does. `Unknown` is what is no command's.
+// What a command does. `Sends` is SR's, which sends on change; `Unknown` is what is no command's.
 pub enum Kind {
     Informs,
     Weighs,
     Zeroes,
     Resets,
     Shows,
+    Sends,
     Tares,
     Unknown,
 }
@@ -91,6 +94,7 @@ fn letters_of(command: u8) -> Letters
         RESET => Letters(b'@', b' ', b' ', 1),
         D => Letters(b'D', b' ', b' ', 1),
         DW => Letters(b'D', b'W', b' ', 2),
+        SR => Letters(b'S', b'R', b' ', 2),
         T => Letters(b'T', b' ', b' ', 1),
         TA => Letters(b'T', b'A', b' ', 2),
         TAC => Letters(b'T', b'A', b'C', 3),
@@ -145,6 +149,9 @@ pub fn kind_of(command: u8) -> Kind
     if command <= DW {
         return Kind::Shows;
     }
+    if command <= SR {
+        return Kind::Sends;
+    }
     if command <= TI {
         return Kind::Tares;
     }
@@ -154,7 +161,7 @@ pub fn kind_of(command: u8) -> Kind
 pub fn takes_parameters(command: u8) -> bool
     ensures { λ r. ⌜ r ≡ takesParameters command ⌝ }
 {
-    (command == D) | (command == TA)
+    (command == D) | (command == SR) | (command == TA)
 }
 
 pub fn needs_sample(command: u8) -> bool
@@ -166,7 +173,7 @@ pub fn needs_sample(command: u8) -> bool
 pub fn may_wait(command: u8) -> bool
     ensures { λ r. ⌜ r ≡ mayWait command ⌝ }
 {
-    (command == S) | (command == Z) | (command == T)
+    (command == S) | (command == Z) | (command == SR) | (command == T)
 }
 
 // I2 to I5, whose answer is a text.
@@ -189,46 +196,51 @@ fn is_name(word: &[u8], command: u8) -> bool
     same_text(&word[..len], &cells[..len])
 }
 
-fn joined(first: u8, last: u8) -> u16
-    ensures { λ r. ⌜ r ≡ first * 256 + last ⌝ }
+fn joined(len: usize, first: u8, last: u8) -> u32
+    requires { ⌜ len ≤ 3 ⌝ }
+    ensures { λ r. ⌜ r ≡ len * 65536 + first * 256 + last ⌝ }
 {
-    first as u16 * 256 + last as u16
+    len as u32 * 65536 + first as u32 * 256 + last as u32
 }
 
-// A word's first and last byte: no two names have both in common.
-fn ends_of(word: &[u8]) -> u16
+// A word's length, first and last byte: no two names have all three in common. No name is longer than three bytes.
+fn ends_of(word: &[u8]) -> u32
     ensures { λ r. ⌜ r ≡ endsOf (now (word .entry)) ⌝ }
 {
     let len = word.len();
     if len == 0 {
         return 0;
     }
-    joined(word[0], word[len - 1])
+    if 3 < len {
+        return 0;
+    }
+    joined(len, word[0], word[len - 1])
 }
 
 // The place of the name with these ends.
-fn place_of_ends(ends: u16) -> u8
+fn place_of_ends(ends: u32) -> u8
     ensures { λ r. ⌜ r ≡ placeAmong (allEnds names) ends ⌝ }
 {
     match ends {
-        0x4930 => I0,
-        0x4931 => I1,
-        0x4932 => I2,
-        0x4933 => I3,
-        0x4934 => I4,
-        0x4935 => I5,
-        0x5353 => S,
-        0x5349 => SI,
-        0x5352 => SIR,
-        0x5A5A => Z,
-        0x5A49 => ZI,
-        0x4040 => RESET,
-        0x4444 => D,
-        0x4457 => DW,
-        0x5454 => T,
-        0x5441 => TA,
-        0x5443 => TAC,
-        0x5449 => TI,
+        0x24930 => I0,
+        0x24931 => I1,
+        0x24932 => I2,
+        0x24933 => I3,
+        0x24934 => I4,
+        0x24935 => I5,
+        0x15353 => S,
+        0x25349 => SI,
+        0x35352 => SIR,
+        0x15A5A => Z,
+        0x25A49 => ZI,
+        0x14040 => RESET,
+        0x14444 => D,
+        0x24457 => DW,
+        0x25352 => SR,
+        0x15454 => T,
+        0x25441 => TA,
+        0x35443 => TAC,
+        0x25449 => TI,
         _ => NONE,
     }
 }

@@ -26,6 +26,7 @@ pub use command::RESET;
 pub use command::S;
 pub use command::SI;
 pub use command::SIR;
+pub use command::SR;
 pub use command::T;
 pub use command::TA;
 pub use command::TAC;

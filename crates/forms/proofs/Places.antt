@@ -9,7 +9,7 @@ use native.Mathlib.Omega.{arith}
 use borrow.Author.Tests.{eqb-true, leb-true, ltb-true}
 use lib.Dec.{eqb, leb, ltb, lit≤, lit<}
 use lib.ListN.{length}
-use Rattle.answer.specs.Commands.{nameOf, commandCount, isD, isDW, isReset, isS, isSI, isSIR, isT, isTA, isTAC, isTI, isZ, isZI, placeD, placeDW, placeS, placeT, placeTA, placeTAC, placeTI, placeZ, placeZI, placeI2, placeI5, hasText}
+use Rattle.answer.specs.Commands.{nameOf, commandCount, isD, isDW, isReset, isS, isSI, isSIR, isSR, isT, isTA, isTAC, isTI, isZ, isZI, placeD, placeDW, placeS, placeT, placeTA, placeTAC, placeTI, placeZ, placeZI, placeI2, placeI5, hasText}
 use Rattle.answer.specs.declared.answer.Status.{Status}
 use Rattle.answer.specs.declared.answer.Status.the-variants.{A, B, S, D, I, L, Over, Under}
 use Rattle.forms.specs.Forms.{isIdentification, plainForm, weightForm}
@@ -46,8 +46,9 @@ plain-place c A e = done-place c e
 plain-place c B e = let z : _≡_ {A = ℕ} 0 1 = cc in absurd (omega arith)
 plain-place c S e = known c placeZI (lit< tt) e
 plain-place c D e = known c placeZI (lit< tt) e
-plain-place c I e = ltb-true c commandCount (both-left (ltb c commandCount) (not (isSI c || isSIR c)) (both-left (isIdentification c) (not (isReset c)) e))
-plain-place c L e = either (isD c) (isTA c) (known c placeD (lit< tt)) (known c placeTA (lit< tt)) e
+plain-place c I e = ltb-true c commandCount (both-left (ltb c commandCount) (not (isSI c || isSIR c || isSR c)) (both-left (isIdentification c) (not (isReset c)) e))
+plain-place c L e =
+    either (isS c || isD c) (isTA c) (either (isS c) (isD c) (known c placeS (lit< tt)) (known c placeD (lit< tt))) (known c placeTA (lit< tt)) e
 plain-place c Over e = signed-place c e
 plain-place c Under e = signed-place c e
 

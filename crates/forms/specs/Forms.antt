@@ -6,7 +6,7 @@ use mathlib.Core.List.{List}
 use lib.Dec.{leb, ltb, eqb}
 use lib.ListN.{length}
 use lib.Signed.{nonNeg}
-use Rattle.answer.specs.Commands.{names, isD, isDW, isReset, isS, isSI, isSIR, isT, isTA, isTAC, isTI, isZ, isZI, placeI3, hasText}
+use Rattle.answer.specs.Commands.{names, isD, isDW, isReset, isS, isSI, isSIR, isSR, isT, isTA, isTAC, isTI, isZ, isZI, placeI3, hasText}
 use Rattle.answer.specs.declared.answer.Answer.{Answer}
 use Rattle.answer.specs.declared.answer.Answer.the-variants.{Nothing, Plain, Weight, ErrorLine, Text, Listed, CommandList, Versions}
 use Rattle.answer.specs.declared.answer.Number.{Number}
@@ -15,20 +15,20 @@ use Rattle.answer.specs.declared.answer.Status.the-variants.{A, B, S, D, I, L, 
 use Rattle.text.specs.Printable.{isPrintable}
 use Rattle.weight.specs.Places.{fitsField}
 
--- the identification of some command: for SI and SIR it is S
+-- the identification of some command: for SI, SIR and SR it is S
 abbrev pub isIdentification : ℕ → Bool
-isIdentification c = ltb c (length names) && not (isSI c || isSIR c)
+isIdentification c = ltb c (length names) && not (isSI c || isSIR c || isSR c)
 
 -- ---- an identification and a status alone
 
--- A for Z, TAC, D, DW; S or D for ZI; + and - for S, Z, ZI, T, TI; L for D, TA; I for every identification but @
+-- A for Z, TAC, D, DW; S or D for ZI; + and - for S, Z, ZI, T, TI; L for S, D, TA; I for every identification but @
 abbrev pub plainForm : ℕ → Status → Bool
 plainForm c A = isZ c || isTAC c || isD c || isDW c
 plainForm c B = false
 plainForm c S = isZI c
 plainForm c D = isZI c
 plainForm c I = isIdentification c && not (isReset c)
-plainForm c L = isD c || isTA c
+plainForm c L = isS c || isD c || isTA c
 plainForm c Over = isS c || isZ c || isZI c || isT c || isTI c
 plainForm c Under = isS c || isZ c || isZI c || isT c || isTI c
 

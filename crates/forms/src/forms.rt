@@ -14,6 +14,7 @@ use answer::RESET;
 use answer::S;
 use answer::SI;
 use answer::SIR;
+use answer::SR;
 use answer::Status;
 use answer::T;
 use answer::TA;
@@ -48,8 +49,10 @@ pub fn plain_form(head: Head) -> bool
         Status::B => false,
         Status::S => command == ZI,
         Status::D => command == ZI,
-        Status::I => (command < NONE) & !((command == SI) | (command == SIR)) & !(command == RESET),
-        Status::L => (command == D) | (command == TA),
+        Status::I => (command < NONE)
+            & !((command == SI) | (command == SIR) | (command == SR))
+            & !(command == RESET),
+        Status::L => (command == S) | (command == D) | (command == TA),
         Status::Over => has_limits(command),
         Status::Under => has_limits(command),
     }

@@ -1,7 +1,7 @@
 -- `answer::command::kind_of` meets its contract: the commands of a kind stand together.
 -- Assumes nothing.
 use borrow.Author.Needs.{needs}
-use Rattle.answer.proofs.Rows.{informs-to, weighs-to, zeroes-to, resets-to, shows-to, tares-to, unknown-from}
+use Rattle.answer.proofs.Rows.{informs-to, weighs-to, zeroes-to, resets-to, shows-to, sends-to, tares-to, unknown-from}
 use Rattle.answer.proofs.command.kind_of.Statement.{statement}
 use Rattle.answer.proofs.command.kind_of.Tie as tie
 
@@ -21,11 +21,14 @@ returns-5 : tie.Need-returns-5
 returns-5 c = search (needs, shows-to)
 
 returns-6 : tie.Need-returns-6
-returns-6 c = search (needs, tares-to)
+returns-6 c = search (needs, sends-to)
 
 returns-7 : tie.Need-returns-7
-returns-7 c = search (needs, unknown-from)
+returns-7 c = search (needs, tares-to)
+
+returns-8 : tie.Need-returns-8
+returns-8 c = search (needs, unknown-from)
 
 pub kind-of-spec : {M : Type 1} → statement M
 kind-of-spec =
-    tie.close (tie.spec returns returns-2 returns-3 returns-4 returns-5 returns-6 returns-7)
+    tie.close (tie.spec returns returns-2 returns-3 returns-4 returns-5 returns-6 returns-7 returns-8)

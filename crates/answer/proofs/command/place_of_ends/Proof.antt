@@ -79,8 +79,12 @@ unfolding endsOf placeAmong
 returns-18 c = rw (c .match .keys18)
 
 returns-19 : tie.Need-returns-19
+unfolding endsOf placeAmong
+returns-19 c = rw (c .match .keys19)
+
+returns-20 : tie.Need-returns-20
 unfolding endsOf
-returns-19 c = sym (no-ends (c .before .args .ends) (c .match .rest))
+returns-20 c = sym (no-ends (c .before .args .ends) (c .match .rest))
 
 pub place-of-ends-spec : {M : Type 1} → statement M
 place-of-ends-spec =
@@ -104,4 +108,5 @@ place-of-ends-spec =
     returns-16
     returns-17
     returns-18
-    returns-19)
+    returns-19
+    returns-20)

@@ -1,4 +1,5 @@
--- Document 01, "Receiving": the table of a finished line, its rows in the paper's order, and the parameters of D and TA.
+-- Document 01, "Receiving": the table of a finished line, its rows in the paper's order, and the parameters of D, TA and SR
+-- (document 02, No. 1).
 -- Assumes nothing.
 use Prim.Native.Nat.{ℕ, _-_}
 use mathlib.Core.Bool.{Bool, false, cond, not, _&&_, _||_}
@@ -6,14 +7,15 @@ use mathlib.Core.List.{List, [], _∷_}
 use lib.Dec.{leb, ltb, eqb}
 use lib.ListN.{length, getD, take, drop}
 use Rattle.answer.specs.declared.answer.Error.the-variants.{Syntax, Transmission, Logical}
-use Rattle.answer.specs.Commands.{names, placeOf, isD, isReset, isTA, takesParameters, needsSample}
+use Rattle.answer.specs.Commands.{names, placeOf, isD, isReset, isSR, isTA, takesParameters, needsSample}
 use Rattle.line.specs.declared.receive.Line.{Line}
 use Rattle.line.specs.declared.judge.Situation.{Situation}
 use Rattle.line.specs.declared.judge.Verdict.{Verdict}
-use Rattle.line.specs.declared.judge.Verdict.the-variants.{Erroneous, Reset, Busy, Wrong, NoSample, Run, Preset, Show}
+use Rattle.line.specs.declared.judge.Verdict.the-variants.{Erroneous, Reset, Busy, Wrong, NoSample, Run, Preset, Change, Show}
 use Rattle.line.specs.Receiving.{contentOf}
 use Rattle.weight.specs.declared.amount.Tare.{Tare}
 use Rattle.weight.specs.declared.amount.Typed.{Typed}
+use Rattle.weight.specs.declared.changes.Threshold.{Threshold}
 use Rattle.weight.specs.declared.amount.Typed.the-variants.{Amount, TooLarge, NotTyped}
 use Rattle.weight.specs.Characters.{quote}
 use Rattle.text.specs.Ascii.{sameText}
@@ -59,20 +61,34 @@ amountIn (Amount m) = m
 amountIn TooLarge = record { 0 = 0 }
 amountIn NotTyped = record { 0 = 0 }
 
--- the number of TA number unit
-abbrev pub typedIn : Situation → List ℕ → Typed
-typedIn j p = readTyped (j .resolution .unit) (beforeSpace p)
+-- the same as a threshold, which is not 0
+abbrev pub thresholdOf : ℕ → Typed → Bool
+thresholdOf capacity (Amount m) = leb 1 (m .0) && leb (m .0) capacity
+thresholdOf capacity TooLarge = false
+thresholdOf capacity NotTyped = false
 
--- number, space, the profile's unit; not above C
-unfoldable pub isPreset : Situation → List ℕ → Bool
-isPreset j p =
-    (hasSpace p && sameText (afterSpace p) (unitText (j .resolution .unit))) && presetOf (j .capacity) (typedIn j p)
+abbrev pub thresholdIn : Typed → Threshold
+thresholdIn n = record { 0 = amountIn n .0 }
 
--- a name that takes parameters, with wrong ones; TA may stand alone
+-- number, space, the profile's unit
+unfoldable pub typedIn : Situation → List ℕ → Typed
+typedIn j p =
+    cond (hasSpace p && sameText (afterSpace p) (unitText (j .resolution .unit))) (readTyped (j .resolution .unit) (beforeSpace p)) NotTyped
+
+-- of TA, not above C
+abbrev pub isPreset : Situation → List ℕ → Bool
+isPreset j p = presetOf (j .capacity) (typedIn j p)
+
+-- of SR, neither 0 nor above C
+abbrev pub isThreshold : Situation → List ℕ → Bool
+isThreshold j p = thresholdOf (j .capacity) (typedIn j p)
+
+-- a name that takes parameters, with wrong ones; TA and SR may stand alone
 unfoldable pub isWrong : Situation → ℕ → List ℕ → Bool
 isWrong j c t =
     (isD c && not (hasSpace t && isQuoted (afterSpace t)))
     || (isTA c && (hasSpace t && not (isPreset j (afterSpace t))))
+    || (isSR c && (hasSpace t && not (isThreshold j (afterSpace t))))
 
 -- ---- the table
 
@@ -84,7 +100,8 @@ unknownIn over t = over || hasControl t || leb (length names) (commandIn t)
 unfoldable pub ownRule : Situation → ℕ → List ℕ → Verdict
 ownRule j c t =
     cond (isD c) (Show (length (afterSpace t) - 2))
-    (cond (isTA c && hasSpace t) (Preset (amountIn (typedIn j (afterSpace t)))) (Run c))
+    (cond (isTA c && hasSpace t) (Preset (amountIn (typedIn j (afterSpace t))))
+    (cond (isSR c && hasSpace t) (Change (thresholdIn (typedIn j (afterSpace t)))) (Run c)))
 
 -- the first row that applies
 abbrev pub firstRow : Bool → Bool → Bool → Bool → Bool → Bool → Bool → ℕ → Verdict → Verdict

@@ -4,11 +4,11 @@ use Prim.Native.Nat.{ℕ, _-_}
 use mathlib.Core.Bool.{Bool, cond, not, _&&_}
 use mathlib.Core.List.{List}
 use lib.ListN.{length}
-use Rattle.answer.specs.Commands.{needsSample, placeD, placeTA}
+use Rattle.answer.specs.Commands.{needsSample, placeD, placeSR, placeTA}
 use Rattle.line.specs.declared.judge.Situation.{Situation}
 use Rattle.line.specs.declared.judge.Verdict.{Verdict}
-use Rattle.line.specs.declared.judge.Verdict.the-variants.{Wrong, NoSample, Preset, Show}
-use Rattle.line.specs.Judging.{isQuoted, typedIn, presetOf, amountIn, isPreset, isWrong, table, ownRule}
+use Rattle.line.specs.declared.judge.Verdict.the-variants.{Wrong, NoSample, Preset, Change, Show}
+use Rattle.line.specs.Judging.{isQuoted, typedIn, presetOf, amountIn, thresholdOf, thresholdIn, isWrong, table, ownRule}
 use Rattle.weight.specs.declared.amount.Typed.{Typed}
 
 -- rows 6 to 8 of D with the parameter p
@@ -21,7 +21,15 @@ amountRule capacity n = cond (presetOf capacity n) (Preset (amountIn n)) (Wrong 
 
 -- rows 6 to 8 of TA with the parameter p
 unfoldable pub presetRule : Situation → List ℕ → Verdict
-presetRule j p = cond (isPreset j p) (Preset (amountIn (typedIn j p))) (Wrong placeTA)
+presetRule j p = amountRule (j .capacity) (typedIn j p)
+
+-- rows 6 to 8 of SR with a number as read
+unfoldable pub thresholdRule : ℕ → Typed → Verdict
+thresholdRule capacity n = cond (thresholdOf capacity n) (Change (thresholdIn n)) (Wrong placeSR)
+
+-- rows 6 to 8 of SR with the parameter p
+unfoldable pub changeRule : Situation → List ℕ → Verdict
+changeRule j p = thresholdRule (j .capacity) (typedIn j p)
 
 -- rows 6 to 8
 unfoldable pub lastRows : Situation → ℕ → List ℕ → Verdict

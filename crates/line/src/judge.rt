@@ -8,6 +8,7 @@ ghost use Rattle.line.specs.Receiving.{lineLimit};
 ghost use Rattle.line.specs.Parts.{lastRows, textRows};
 ghost use Rattle.weight.specs.Characters.{space};
 ghost use Rattle.text.specs.Searching.{FirstAt};
+use crate::parameter::change_rule;
 use crate::parameter::preset_rule;
 use crate::parameter::show_rule;
 use crate::receive::LINE_LIMIT;
@@ -17,6 +18,7 @@ use answer::D;
 use answer::Error;
 use answer::NONE;
 use answer::RESET;
+use answer::SR;
 use answer::TA;
 use answer::find_command;
 use answer::needs_sample;
@@ -24,6 +26,7 @@ use answer::takes_parameters;
 use text::first_at;
 use weight::Resolution;
 use weight::Tare;
+use weight::Threshold;
 
 // What the table asks of the device: document 01's C, how weights are shown, whether a command waits, and whether there was a sample.
 pub struct Situation {
@@ -44,6 +47,8 @@ pub enum Verdict {
     Run(u8),
     // TA with a number.
     Preset(Tare),
+    // SR with a number.
+    Change(Threshold),
     // D with a text of this length, which starts at the line's fourth byte.
     Show(u8),
 }
@@ -75,6 +80,13 @@ fn last_rows(situation: Situation, command: u8, text: &[u8], end: usize) -> Verd
             return preset_rule(situation, &text[start..]);
         }
         return Verdict::Run(TA);
+    }
+    if command == SR {
+        if end < text.len() {
+            let start = end + 1;
+            return change_rule(situation, &text[start..]);
+        }
+        return Verdict::Run(SR);
     }
     if lacks_sample(situation, command) {
         return Verdict::NoSample(command);

@@ -1,10 +1,11 @@
-// The parameters of D and TA.
+// The parameters of D, TA and SR.
 ghost use mathlib.Core.Path.{_≡_};
-ghost use Rattle.line.specs.Judging.{isShown, isQuoted};
-ghost use Rattle.line.specs.Parts.{showRule, amountRule, presetRule};
+ghost use Rattle.line.specs.Judging.{isShown, isQuoted, typedIn};
+ghost use Rattle.line.specs.Parts.{showRule, amountRule, presetRule, thresholdRule, changeRule};
 use crate::judge::Situation;
 use crate::judge::Verdict;
 use answer::D;
+use answer::SR;
 use answer::TA;
 use text::first_at;
 use text::is_printable;
@@ -12,6 +13,8 @@ use text::is_unit;
 use text::read_typed;
 use weight::Typed;
 use weight::is_tare_within;
+use weight::is_threshold_within;
+use weight::threshold_of;
 
 const LONGEST_SHOWN: usize = 20;
 
@@ -64,19 +67,51 @@ fn amount_rule(capacity: u32, typed: Typed) -> Verdict
     }
 }
 
-// What TA does with its parameter: number, space, the profile's unit.
-pub fn preset_rule(situation: Situation, parameter: &[u8]) -> Verdict
-    ensures { λ r. ⌜ r ≡ presetRule situation (now (parameter .entry)) ⌝ }
+// A number as read: neither 0 nor above the capacity.
+fn threshold_rule(capacity: u32, typed: Typed) -> Verdict
+    ensures { λ r. ⌜ r ≡ thresholdRule capacity typed ⌝ }
+{
+    match typed {
+        Typed::Amount(amount) => {
+            let threshold = threshold_of(amount);
+            if (1 <= threshold.0) & is_threshold_within(threshold, capacity) {
+                Verdict::Change(threshold)
+            } else {
+                Verdict::Wrong(SR)
+            }
+        }
+        Typed::TooLarge => Verdict::Wrong(SR),
+        Typed::NotTyped => Verdict::Wrong(SR),
+    }
+}
+
+// Number, space, the profile's unit.
+fn typed_in(situation: Situation, parameter: &[u8]) -> Typed
+    ensures { λ r. ⌜ r ≡ typedIn situation (now (parameter .entry)) ⌝ }
 {
     let resolution = situation.resolution;
     let unit = resolution.unit;
     let space = first_at(parameter, b' ');
     if parameter.len() <= space {
-        return Verdict::Wrong(TA);
+        return Typed::NotTyped;
     }
     let start = space + 1;
     if is_unit(&parameter[start..], unit) {
-        return amount_rule(situation.capacity, read_typed(unit, &parameter[..space]));
+        return read_typed(unit, &parameter[..space]);
     }
-    Verdict::Wrong(TA)
+    Typed::NotTyped
+}
+
+// What TA does with its parameter.
+pub fn preset_rule(situation: Situation, parameter: &[u8]) -> Verdict
+    ensures { λ r. ⌜ r ≡ presetRule situation (now (parameter .entry)) ⌝ }
+{
+    amount_rule(situation.capacity, typed_in(situation, parameter))
+}
+
+// What SR does with its parameter.
+pub fn change_rule(situation: Situation, parameter: &[u8]) -> Verdict
+    ensures { λ r. ⌜ r ≡ changeRule situation (now (parameter .entry)) ⌝ }
+{
+    threshold_rule(situation.capacity, typed_in(situation, parameter))
 }

@@ -1,16 +1,18 @@
 -- One law for each way that a new sample takes.
 -- Assumes nothing.
 use mathlib.Core.Path.{_≡_, refl, sym}
-use mathlib.Core.Bool.{Bool, true, false, cond, _||_, false≢true}
+use mathlib.Core.Bool.{Bool, true, false, not, _||_, false≢true}
 use Rattle.answer.specs.declared.answer.Answer.the-variants as answers
 use Rattle.model.specs.declared.profile.Profile.{Profile}
 use Rattle.model.specs.declared.react.Reaction.{Reaction}
+use Rattle.model.specs.declared.sending.Mode.{Mode}
+use Rattle.model.specs.declared.sending.Mode.the-variants.{Off, EachSample, OnChange}
 use Rattle.model.specs.declared.state.State.{State}
 use Rattle.weight.specs.declared.loads.Load.{Load}
 use Rattle.model.specs.Groups.{chosenReaction, notWaiting, reaction, withWaiting}
-use Rattle.waiting.specs.Waits.{isAwaited, measuredReaction, sampleReaction, sampledState, settled, waited}
+use Rattle.waiting.specs.Waits.{isAwaited, sampleReaction, sampledState, settledReaction, unaskedAs, waited}
+use Rattle.model.specs.Sendings.{isOff}
 use Rattle.model.specs.States.{isPending}
-use Rattle.weighing.specs.Weighings.{weighed}
 
 none-left : (a b : Bool) → (a || b) ≡ false → a ≡ false
 none-left false b e = refl
@@ -22,20 +24,27 @@ none-right true b e = absurd (false≢true (sym e))
 
 module _ (s : State) (load : Load) (stable : Bool) {t : State} (put : t ≡ sampledState s load stable) where
   pub sample-attended : (p : Profile) {b : Bool} {r : Reaction} → b ≡ isPending (s .waiting .pending) → b ≡ true
-      → r ≡ chosenReaction (t .weighing .stable) (measuredReaction (withWaiting t notWaiting) (settled p (t .waiting .pending) (t .weighing))) (waited p t)
+      → r ≡ chosenReaction (t .weighing .stable) (settledReaction p (withWaiting t notWaiting) (t .waiting .pending)) (waited p t)
       → r ≡ sampleReaction p s load stable
   unfolding sampleReaction
   sample-attended p e h r = rw (r, put, ← e, h)
 
-  pub sample-repeated : (p : Profile) {b : Bool} {r : Reaction} → b ≡ isPending (s .waiting .pending) → b ≡ false
-      → r ≡ reaction t (cond (t .repeating) (weighed p (t .weighing)) answers.Nothing)
+  pub sample-unasked : (p : Profile) {b : Bool} {r : Reaction} → b ≡ isPending (s .waiting .pending) → b ≡ false
+      → r ≡ unaskedAs (t .sending .mode) p t
       → r ≡ sampleReaction p s load stable
   unfolding sampleReaction
-  sample-repeated p e h r = rw (r, put, ← e, h)
+  sample-unasked p e h r = rw (r, put, ← e, h)
 
--- no command waits and no repetition runs
+off-is : (m : Mode) (p : Profile) (s : State) → not (isOff m) ≡ false → unaskedAs m p s ≡ reaction s answers.Nothing
+off-is Off p s e = refl
+off-is EachSample p s e = absurd (false≢true (sym e))
+off-is OnChange p s e = absurd (false≢true (sym e))
+
+-- no command waits, and neither SIR nor SR runs
 pub sample-unanswered : (p : Profile) (s : State) (load : Load) (stable : Bool) → isAwaited s ≡ false
     → sampleReaction p s load stable ≡ reaction (sampledState s load stable) answers.Nothing
 unfolding sampleReaction
 sample-unanswered p s load stable e =
-    rw (none-left (isPending (s .waiting .pending)) (s .repeating) e, none-right (isPending (s .waiting .pending)) (s .repeating) e)
+    let waits = isPending (s .waiting .pending) in
+    let runs = not (isOff (s .sending .mode)) in
+    rw (none-left waits runs e) (off-is (s .sending .mode) p (sampledState s load stable) (none-right waits runs e))

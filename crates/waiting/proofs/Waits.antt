@@ -9,20 +9,25 @@ use Rattle.answer.specs.declared.answer.Answer.the-variants as answers
 use Rattle.answer.specs.declared.answer.Status.the-variants.{I}
 use Rattle.model.specs.declared.react.Reaction.{Reaction}
 use Rattle.weighing.specs.declared.weighing.Measured.{Measured}
-use Rattle.model.specs.Groups.{notWaiting, reaction, withWaiting}
-use Rattle.waiting.specs.Waits.{begun, measuredReaction, placeOfPending, settled, waited}
+use Rattle.model.specs.Groups.{notWaiting, reaction, withSending, withWaiting}
+use Rattle.waiting.specs.Waits.{begun, measuredReaction, placeOfPending, sendingOf, settled, settledReaction, waited}
 use Rattle.answer.specs.Lines.{headOf}
 use Rattle.model.specs.declared.profile.Profile.{Profile}
+use Rattle.model.specs.declared.sending.Sending.{Sending}
 use Rattle.model.specs.declared.state.Pending.{Pending}
 use Rattle.model.specs.declared.state.State.{State}
 use Rattle.model.specs.declared.state.Waiting.{Waiting}
 
 module _ (p : Profile) (s : State) {r : Reaction} where
   -- judged at once
-  pub begun-judged : (pending : Pending) {m : Measured} → (s .weighing .sampled && s .weighing .stable) ≡ true
-      → m ≡ settled p pending (s .weighing) → r ≡ measuredReaction s m → r ≡ begun p s pending
+  pub begun-judged : (pending : Pending) → (s .weighing .sampled && s .weighing .stable) ≡ true → r ≡ settledReaction p s pending → r ≡ begun p s pending
   unfolding begun
-  begun-judged pending t m h = rw (h, m, t)
+  begun-judged pending t h = rw (h, t)
+
+  pub settled-is : (pending : Pending) {c : Sending} {t : State} {m : Measured} → c ≡ sendingOf p pending (s .weighing) (s .sending) → t ≡ withSending s c
+      → m ≡ settled p pending (s .weighing) → r ≡ measuredReaction t m → r ≡ settledReaction p s pending
+  unfolding settledReaction
+  settled-is pending c t m h = rw (h, m, t, c)
 
   -- the command waits
   pub begun-waiting : (pending : Pending) {w : Waiting} {t : State} → (s .weighing .sampled && s .weighing .stable) ≡ false

@@ -1,7 +1,8 @@
--- Document 01, "What each command does": waiting for a stable sample, and what a sample makes of the state, with its answer.
+-- Document 01, "What each command does": waiting for a stable sample, and what a sample makes of the state, with its answer. SR is
+-- document 02's.
 -- Assumes nothing.
 use Prim.Native.Nat.{ℕ, _+_}
-use mathlib.Core.Bool.{Bool, cond, _&&_, _||_}
+use mathlib.Core.Bool.{Bool, not, _&&_, _||_}
 use lib.Dec.{leb}
 use Rattle.answer.specs.Commands.{placeS, placeT, placeZ}
 use Rattle.answer.specs.declared.answer.Answer.the-variants.{Plain}
@@ -9,29 +10,35 @@ use Rattle.answer.specs.declared.answer.Answer.the-variants as answers
 use Rattle.answer.specs.declared.answer.Status.the-variants.{A, I}
 use Rattle.model.specs.declared.profile.Profile.{Profile}
 use Rattle.model.specs.declared.state.Pending.{Pending}
-use Rattle.model.specs.declared.state.Pending.the-variants.{Nothing, Weigh, Zero, Tare}
+use Rattle.model.specs.declared.sending.Mode.{Mode}
+use Rattle.model.specs.declared.sending.Mode.the-variants.{Off, EachSample, OnChange}
+use Rattle.model.specs.declared.sending.Sending.{Sending}
+use Rattle.model.specs.declared.state.Pending.the-variants.{Nothing, Weigh, Zero, Tare, Change}
 use Rattle.model.specs.declared.state.State.{State}
 use Rattle.weight.specs.declared.loads.Load.{Load}
 use Rattle.model.specs.declared.weighing.Weighing.{Weighing}
-use Rattle.model.specs.Groups.{withWeighing, withWaiting, reaction, chosenReaction, notWaiting}
+use Rattle.model.specs.Groups.{withWeighing, withWaiting, withSending, reaction, chosenReaction, notWaiting}
+use Rattle.model.specs.Sendings.{isOff}
 use Rattle.model.specs.States.{isPending}
 use Rattle.model.specs.declared.react.Reaction.{Reaction}
 use Rattle.weighing.specs.declared.weighing.Measured.{Measured}
 use Rattle.answer.specs.Lines.{headOf}
+use Rattle.waiting.specs.Changes.{started, changeReaction}
 use Rattle.weighing.specs.Weighings.{weighed, withSample, zeroed, tared}
 
 -- the weighing that a command made, and its answer
 abbrev pub measuredReaction : State → Measured → Reaction
 measuredReaction s m = reaction (withWeighing s (m .weighing)) (m .answer)
 
--- ---- S, Z and T: judged at a stable sample, and else waiting
+-- ---- S, Z, T and SR: judged at a stable sample, and else waiting
 
--- the identification of what waits
+-- the identification of what waits; that of SR is S
 abbrev pub placeOfPending : Pending → ℕ
 placeOfPending Nothing = 0
 placeOfPending Weigh = placeS
 placeOfPending Zero = placeZ
 placeOfPending Tare = placeT
+placeOfPending Change = placeS
 
 -- what a waiting command makes of a stable sample
 abbrev pub settled : Profile → Pending → Weighing → Measured
@@ -39,12 +46,26 @@ settled p Nothing w = record { weighing = w; answer = answers.Nothing }
 settled p Weigh w = record { weighing = w; answer = weighed p w }
 settled p Zero w = zeroed p w placeZ A
 settled p Tare w = tared p w placeT
+settled p Change w = record { weighing = w; answer = weighed p w }
+
+-- SR runs from then on
+abbrev pub sendingOf : Profile → Pending → Weighing → Sending → Sending
+sendingOf p Nothing w c = c
+sendingOf p Weigh w c = c
+sendingOf p Zero w c = c
+sendingOf p Tare w c = c
+sendingOf p Change w c = started p w c
+
+-- at the latest sample of a state
+unfoldable pub settledReaction : Profile → State → Pending → Reaction
+settledReaction p s pending =
+    measuredReaction (withSending s (sendingOf p pending (s .weighing) (s .sending))) (settled p pending (s .weighing))
 
 -- judge the latest sample if it is stable, and otherwise wait
 unfoldable pub begun : Profile → State → Pending → Reaction
 begun p s pending =
     chosenReaction (s .weighing .sampled && s .weighing .stable)
-    (measuredReaction s (settled p pending (s .weighing)))
+    (settledReaction p s pending)
     (reaction (withWaiting s (record { pending = pending; unstable = 0 })) answers.Nothing)
 
 -- one more unstable sample while a command waits: the W-th ends the wait with I
@@ -59,17 +80,22 @@ waited p s =
 
 -- a sample may be answered
 abbrev pub isAwaited : State → Bool
-isAwaited s = isPending (s .waiting .pending) || s .repeating
+isAwaited s = isPending (s .waiting .pending) || not (isOff (s .sending .mode))
 
 -- the sample is the latest
 abbrev pub sampledState : State → Load → Bool → State
 sampledState s load stable = withWeighing s (withSample (s .weighing) load stable)
 
--- a sample that finds a command waiting gives only that command's answer, if any; while a repetition runs, each other one
--- gives the SI answer
+-- what is sent of the latest sample without being asked for: nothing, the SI answer while a repetition runs, or as SR says
+abbrev pub unaskedAs : Mode → Profile → State → Reaction
+unaskedAs Off p s = reaction s answers.Nothing
+unaskedAs EachSample p s = reaction s (weighed p (s .weighing))
+unaskedAs OnChange p s = changeReaction p s
+
+-- a sample that finds a command waiting gives only that command's answer, if any
 unfoldable pub sampleReaction : Profile → State → Load → Bool → Reaction
 sampleReaction p s load stable =
     let t = sampledState s load stable in
     chosenReaction (isPending (s .waiting .pending))
-    (chosenReaction stable (measuredReaction (withWaiting t notWaiting) (settled p (s .waiting .pending) (t .weighing))) (waited p t))
-    (reaction t (cond (s .repeating) (weighed p (t .weighing)) answers.Nothing))
+    (chosenReaction stable (settledReaction p (withWaiting t notWaiting) (s .waiting .pending)) (waited p t))
+    (unaskedAs (s .sending .mode) p t)

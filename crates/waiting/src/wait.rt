@@ -1,7 +1,8 @@
-// S, Z and T: judged at a stable sample, and else waiting.
+// S, Z, T and SR: judged at a stable sample, and else waiting.
 ghost use mathlib.Core.Path.{_≡_};
 ghost use Rattle.model.specs.Groups as groups;
 ghost use Rattle.waiting.specs.Waits as meaning;
+use crate::change::started;
 use crate::react::measured_reaction;
 use answer::Answer;
 use answer::S;
@@ -12,10 +13,12 @@ use answer::plain;
 use model::Pending;
 use model::Profile;
 use model::Reaction;
+use model::Sending;
 use model::State;
 use model::Waiting;
 use model::Weighing;
 use model::answered;
+use model::with_sending;
 use model::with_waiting;
 use weighing::Measured;
 use weighing::tared;
@@ -32,6 +35,7 @@ fn place_of(pending: Pending) -> u8
         Pending::Weigh => S,
         Pending::Zero => Z,
         Pending::Tare => T,
+        Pending::Change => S,
     }
 }
 
@@ -51,7 +55,7 @@ pub fn not_waiting() -> Waiting
 }
 
 // What a waiting command makes of a stable sample.
-pub fn settled(profile: Profile, pending: Pending, weighing: Weighing) -> Measured
+fn settled(profile: Profile, pending: Pending, weighing: Weighing) -> Measured
     ensures { λ r. ⌜ r ≡ meaning.settled profile pending weighing ⌝ }
 {
     match pending {
@@ -59,7 +63,31 @@ pub fn settled(profile: Profile, pending: Pending, weighing: Weighing) -> Measur
         Pending::Weigh => unchanged(weighing, weighed(profile, weighing)),
         Pending::Zero => zeroed(profile, weighing, Z, Status::A),
         Pending::Tare => tared(profile, weighing, T),
+        Pending::Change => unchanged(weighing, weighed(profile, weighing)),
     }
+}
+
+// SR runs from then on.
+fn sending_of(profile: Profile, pending: Pending, weighing: Weighing, sending: Sending) -> Sending
+    ensures { λ r. ⌜ r ≡ meaning.sendingOf profile pending weighing sending ⌝ }
+{
+    match pending {
+        Pending::Nothing => sending,
+        Pending::Weigh => sending,
+        Pending::Zero => sending,
+        Pending::Tare => sending,
+        Pending::Change => started(profile, weighing, sending),
+    }
+}
+
+// At the latest sample of a state.
+pub fn settled_reaction(profile: Profile, state: State, pending: Pending) -> Reaction
+    ensures { λ r. ⌜ r ≡ meaning.settledReaction profile state pending ⌝ }
+{
+    let weighing = state.weighing;
+    let sending = state.sending;
+    let next = with_sending(state, sending_of(profile, pending, weighing, sending));
+    measured_reaction(next, settled(profile, pending, weighing))
 }
 
 // The latest sample is judged if it is stable; otherwise the command waits.
@@ -68,7 +96,7 @@ pub fn begun(profile: Profile, state: State, pending: Pending) -> Reaction
 {
     let weighing = state.weighing;
     if weighing.sampled & weighing.stable {
-        return measured_reaction(state, settled(profile, pending, weighing));
+        return settled_reaction(profile, state, pending);
     }
     answered(
         with_waiting(state, waiting_for(pending, 0)),

@@ -44,6 +44,10 @@ chosenWeighing false a b = b
 abbrev pub inLimits : ℕ → Bool → Bool → Answer → Answer
 inLimits c over under granted = cond over (Plain (headOf c Over)) (cond under (Plain (headOf c Under)) granted)
 
+-- gross > C or gross < -U
+abbrev pub isOutside : Profile → Weighing → Bool
+isOutside p w = ltZ (pos (p .capacity)) (grossOf w) || ltZ (grossOf w) (negℤ (pos (p .underload)))
+
 -- S, SI, SIR: gross > C gives S +, gross < -U gives S -, else the net
 unfoldable pub weighed : Profile → Weighing → Answer
 weighed p w =

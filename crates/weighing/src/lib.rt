@@ -3,6 +3,8 @@
 mod weighing;
 
 pub use weighing::Measured;
+pub use weighing::is_outside;
+pub use weighing::net_of;
 pub use weighing::stability;
 pub use weighing::tare_answer;
 pub use weighing::tared;

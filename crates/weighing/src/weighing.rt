@@ -36,7 +36,7 @@ fn gross_of(weighing: Weighing) -> Micrograms
     weight::gross_of(load, zero)
 }
 
-fn net_of(weighing: Weighing) -> Micrograms
+pub fn net_of(weighing: Weighing) -> Micrograms
     ensures { λ r. ⌜ r .0 ≡ meaning.netOf weighing ⌝ }
 {
     let load = weighing.load;
@@ -87,7 +87,15 @@ pub fn stability(weighing: Weighing) -> Status
     Status::D
 }
 
-// S, SI and SIR.
+// Whether a load is out of range for a weight.
+pub fn is_outside(profile: Profile, weighing: Weighing) -> bool
+    ensures { λ r. ⌜ r ≡ meaning.isOutside profile weighing ⌝ }
+{
+    let gross = gross_of(weighing);
+    is_over(gross, profile.capacity) | is_under(gross, profile.underload)
+}
+
+// S, SI, SIR and SR.
 pub fn weighed(profile: Profile, weighing: Weighing) -> Answer
     ensures { λ r. ⌜ r ≡ meaning.weighed profile weighing ⌝ }
 {

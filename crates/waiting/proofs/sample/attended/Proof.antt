@@ -2,20 +2,17 @@ use borrow.Author.Needs.{needs}
 use Rattle.waiting.proofs.sample.attended.Statement.{statement}
 use Rattle.waiting.proofs.sample.attended.Tie as tie
 
-settled-requires : tie.Need-settled-requires
-settled-requires c κs = search needs
-
 not-waiting-requires : tie.Need-not-waiting-requires
 not-waiting-requires c κs = search needs
 
 with-waiting-requires : tie.Need-with-waiting-requires
 with-waiting-requires c κs = search needs
 
-measured-reaction-requires : tie.Need-measured-reaction-requires
-measured-reaction-requires c κs = search needs
+settled-reaction-requires : tie.Need-settled-reaction-requires
+settled-reaction-requires c κs = search needs
 
 returns : tie.Need-returns
-returns c = rw (c .measured-reaction .ensures, c .before .with-waiting .ensures, c .before .before .not-waiting .ensures, c .before .before .before .settled .ensures, c .before .before .before .before .before .if1 .taken)
+returns c = rw (c .settled-reaction .ensures, c .before .with-waiting .ensures, c .before .before .not-waiting .ensures, c .before .before .before .before .if1 .taken)
 
 waited-requires : tie.Need-waited-requires
 waited-requires c κs = search needs
@@ -27,10 +24,9 @@ pub attended-spec : {M : Type 1} → statement M
 attended-spec =
     tie.close
     (tie.spec
-    settled-requires
     not-waiting-requires
     with-waiting-requires
-    measured-reaction-requires
+    settled-reaction-requires
     returns
     waited-requires
     returns-2)

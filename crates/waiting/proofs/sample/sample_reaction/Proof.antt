@@ -1,5 +1,5 @@
 use borrow.Author.Needs.{needs}
-use Rattle.waiting.proofs.Samples.{sample-attended, sample-repeated}
+use Rattle.waiting.proofs.Samples.{sample-attended, sample-unasked}
 use Rattle.waiting.proofs.sample.sample_reaction.Statement.{statement}
 use Rattle.waiting.proofs.sample.sample_reaction.Tie as tie
 
@@ -15,11 +15,11 @@ attended-requires c κs = search needs
 returns : tie.Need-returns
 returns c = search (needs, sample-attended)
 
-repeated-requires : tie.Need-repeated-requires
-repeated-requires c κs = search needs
+unasked-requires : tie.Need-unasked-requires
+unasked-requires c κs = search needs
 
 returns-2 : tie.Need-returns-2
-returns-2 c = search (needs, sample-repeated)
+returns-2 c = search (needs, sample-unasked)
 
 pub sample-reaction-spec : {M : Type 1} → statement M
 sample-reaction-spec =
@@ -29,5 +29,5 @@ sample-reaction-spec =
     is-pending-requires
     attended-requires
     returns
-    repeated-requires
+    unasked-requires
     returns-2)

@@ -3,11 +3,8 @@ use Rattle.waiting.proofs.Waits.{begun-judged, begun-waiting}
 use Rattle.waiting.proofs.wait.begun.Statement.{statement}
 use Rattle.waiting.proofs.wait.begun.Tie as tie
 
-settled-requires : tie.Need-settled-requires
-settled-requires c κs = search needs
-
-measured-reaction-requires : tie.Need-measured-reaction-requires
-measured-reaction-requires c κs = search needs
+settled-reaction-requires : tie.Need-settled-reaction-requires
+settled-reaction-requires c κs = search needs
 
 returns : tie.Need-returns
 returns c = search (needs, begun-judged)
@@ -28,8 +25,7 @@ pub begun-spec : {M : Type 1} → statement M
 begun-spec =
     tie.close
     (tie.spec
-    settled-requires
-    measured-reaction-requires
+    settled-reaction-requires
     returns
     waiting-for-requires
     with-waiting-requires

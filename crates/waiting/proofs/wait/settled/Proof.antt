@@ -29,6 +29,15 @@ enum-told-4 c = search needs
 tared-requires : tie.Need-tared-requires
 tared-requires c κs = search needs
 
+enum-told-5 : tie.Need-enum-told-5
+enum-told-5 c = search needs
+
+weighed-requires-2 : tie.Need-weighed-requires-2
+weighed-requires-2 c κs = search needs
+
+unchanged-requires-3 : tie.Need-unchanged-requires-3
+unchanged-requires-3 c κs = search needs
+
 returns : tie.Need-returns
 returns c = rw (c .unchanged .ensures, c .before .enum-told .given .1)
 
@@ -40,6 +49,9 @@ returns-3 c = rw (c .zeroed .ensures, c .before .enum-told3 .given .1)
 
 returns-4 : tie.Need-returns-4
 returns-4 c = rw (c .tared .ensures, c .before .enum-told4 .given .1)
+
+returns-5 : tie.Need-returns-5
+returns-5 c = rw (c .unchanged3 .ensures, c .before .weighed2 .ensures, c .before .before .enum-told5 .given .1)
 
 pub settled-spec : {M : Type 1} → statement M
 settled-spec =
@@ -54,7 +66,11 @@ settled-spec =
     zeroed-requires
     enum-told-4
     tared-requires
+    enum-told-5
+    weighed-requires-2
+    unchanged-requires-3
     returns
     returns-2
     returns-3
-    returns-4)
+    returns-4
+    returns-5)

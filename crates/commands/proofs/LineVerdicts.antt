@@ -6,7 +6,7 @@ use borrow.Author.Tests.{le-leb}
 use Rattle.commands.specs.Shown.{showsShort}
 use Rattle.line.specs.declared.judge.Situation.{Situation}
 use Rattle.line.specs.declared.judge.Verdict.{Verdict}
-use Rattle.line.specs.declared.judge.Verdict.the-variants.{Erroneous, Reset, Busy, Wrong, NoSample, Run, Preset, Show}
+use Rattle.line.specs.declared.judge.Verdict.the-variants.{Erroneous, Reset, Busy, Wrong, NoSample, Run, Preset, Change, Show}
 use Rattle.line.specs.declared.receive.Line.{Line}
 use Rattle.line.specs.Judging.{judgement}
 use Rattle.line.proofs.Verdicts.{show-short}
@@ -20,6 +20,7 @@ module _ (j : Situation) (l : Line) where
   short-by (NoSample c) h = refl
   short-by (Run c) h = refl
   short-by (Preset m) h = refl
+  short-by (Change t) h = refl
   short-by (Show n) h = le-leb n 20 (show-short j l h)
 
   pub shows-short : showsShort (judgement j l) ≡ true

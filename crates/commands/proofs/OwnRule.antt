@@ -4,21 +4,25 @@ use Prim.Native.Nat.{ℕ}
 use mathlib.Core.Path.{_≡_, sym, _∙_}
 use mathlib.Core.Bool.{Bool, true, false}
 use borrow.Author.Tests.{eq-eqb, ne-eqb}
-use Rattle.answer.specs.Commands.{kindOf, mayWait, isSIR, placeZI, placeDW, placeT, placeTA, placeTAC, placeTI}
+use Rattle.answer.specs.Commands.{kindOf, mayWait, placeSIR, placeZI, placeDW, placeT, placeTA, placeTAC, placeTI}
 use Rattle.answer.specs.declared.command.Kind.{Kind}
-use Rattle.answer.specs.declared.command.Kind.the-variants.{Informs, Weighs, Zeroes, Resets, Shows, Tares, Unknown}
+use Rattle.answer.specs.declared.command.Kind.the-variants.{Informs, Weighs, Zeroes, Resets, Shows, Sends, Tares, Unknown}
 use Rattle.answer.specs.declared.answer.Answer.{Answer}
 use Rattle.answer.specs.declared.answer.Answer.the-variants.{Plain}
 use Rattle.answer.specs.declared.answer.Status.{Status}
 use Rattle.answer.specs.declared.answer.Status.the-variants.{A}
 use Rattle.model.specs.declared.profile.Profile.{Profile}
 use Rattle.model.specs.declared.react.Reaction.{Reaction}
-use Rattle.model.specs.declared.state.Pending.the-variants.{Weigh, Zero, Tare}
+use Rattle.model.specs.declared.sending.Mode.{Mode}
+use Rattle.model.specs.declared.sending.Mode.the-variants.{Off, EachSample}
+use Rattle.model.specs.declared.sending.Sending.{Sending}
+use Rattle.model.specs.declared.state.Pending.the-variants.{Weigh, Zero, Tare, Change}
 use Rattle.model.specs.declared.state.State.{State}
 use Rattle.weighing.specs.declared.weighing.Measured.{Measured}
 use Rattle.model.specs.declared.weighing.Weighing.{Weighing}
-use Rattle.commands.specs.Reactions.{informed, run, runAs, showing, showingWeight, taring, unanswered, weighing, zeroing}
-use Rattle.model.specs.Groups.{reaction, withRepeating, withWeighing}
+use Rattle.commands.specs.Reactions.{changing, informed, modeAfter, run, runAs, sendingAs, showing, showingWeight, taring, unanswered, weighing, zeroing}
+use Rattle.model.specs.Groups.{reaction, withMode, withSending, withWeighing}
+use Rattle.waiting.specs.Changes.{withThreshold}
 use Rattle.waiting.specs.Waits.{begun, measuredReaction}
 use Rattle.answer.specs.Lines.{headOf}
 use Rattle.weighing.specs.Weighings.{stability, tareAnswer, tared, weighed, withTare, zeroed}
@@ -32,6 +36,19 @@ module _ (s : State) (c : ℕ) {r : Reaction} where
   pub showing-nothing : (c ≡ placeDW → ⊥) → r ≡ unanswered s → r ≡ showing s c
   unfolding showing
   showing-nothing d e = rw (e, ne-eqb c placeDW d)
+
+-- SI and SIR
+pub mode-repeats : (c : ℕ) → c ≡ placeSIR → EachSample ≡ modeAfter c
+mode-repeats c e = rw (eq-eqb c placeSIR e)
+
+pub mode-off : (c : ℕ) → (c ≡ placeSIR → ⊥) → Off ≡ modeAfter c
+mode-off c e = rw (ne-eqb c placeSIR e)
+
+-- SR
+pub changing-begun : (p : Profile) (s : State) (threshold : ℕ) {c : Sending} {t : State} {r : Reaction}
+    → c ≡ withThreshold (s .sending) threshold → t ≡ withSending s c → r ≡ begun p t Change → r ≡ changing p s threshold
+unfolding changing
+changing-begun p s threshold c t g = rw (g, t, c)
 
 module _ (p : Profile) (s : State) (c : ℕ) {r : Reaction} where
   -- by the kind that was found
@@ -55,6 +72,9 @@ module _ (p : Profile) (s : State) (c : ℕ) {r : Reaction} where
     pub run-showing : k ≡ Shows → r ≡ showing s c → r ≡ run p s c
     run-showing = run-as
 
+    pub run-changing : k ≡ Sends → r ≡ changing p s 0 → r ≡ run p s c
+    run-changing = run-as
+
     pub run-taring : k ≡ Tares → r ≡ taring p s c → r ≡ run p s c
     run-taring = run-as
 
@@ -63,14 +83,14 @@ module _ (p : Profile) (s : State) (c : ℕ) {r : Reaction} where
 
   -- S and Z wait, SI, SIR and ZI do not
   module _ {w : Bool} (asked : w ≡ mayWait c) where
-    pub weighing-begun : {t : State} → w ≡ true → t ≡ withRepeating s false → r ≡ begun p t Weigh → r ≡ weighing p s c
+    pub weighing-begun : {t : State} → w ≡ true → t ≡ sendingAs s Off → r ≡ begun p t Weigh → r ≡ weighing p s c
     unfolding weighing
     weighing-begun e t g = rw (g, t, sym asked ∙ e)
 
-    pub weighing-at-once : {t : State} {a : Answer} → w ≡ false → t ≡ withRepeating s (isSIR c) → a ≡ weighed p (s .weighing) → r ≡ reaction t a
-        → r ≡ weighing p s c
+    pub weighing-at-once : {m : Mode} {t : State} {a : Answer} → w ≡ false → m ≡ modeAfter c → t ≡ sendingAs s m → a ≡ weighed p (s .weighing)
+        → r ≡ reaction t a → r ≡ weighing p s c
     unfolding weighing
-    weighing-at-once e t a g = rw (g, t, a, sym asked ∙ e)
+    weighing-at-once e m t a g = rw (g, t, m, a, sym asked ∙ e)
 
     pub zeroing-begun : w ≡ true → r ≡ begun p s Zero → r ≡ zeroing p s c
     unfolding zeroing

@@ -1,29 +1,33 @@
--- Document 01, "What each command does": what a finished line and a byte make of the state, and the answer.
+-- Document 01, "What each command does": what a finished line and a byte make of the state, and the answer. SR is document 02's.
 -- Assumes nothing.
 use Prim.Native.Nat.{ℕ}
 use mathlib.Core.Bool.{Bool, true, false, cond, _||_}
 use mathlib.Core.List.{_++_}
 use lib.ListN.{take, drop}
-use Rattle.answer.specs.Commands.{kindOf, mayWait, hasText, isI0, isI1, isSI, isSIR, isDW, isT, isTA, isTAC, isTI, placeI4, placeS, placeZI, placeD, placeDW, placeTAC, placeTI}
+use Rattle.answer.specs.Commands.{kindOf, mayWait, hasText, isI0, isI1, isSI, isSIR, isSR, isDW, isT, isTA, isTAC, isTI, placeI4, placeS, placeZI, placeD, placeDW, placeTAC, placeTI}
 use Rattle.answer.specs.declared.command.Kind.{Kind}
-use Rattle.answer.specs.declared.command.Kind.the-variants.{Informs, Weighs, Zeroes, Resets, Shows, Tares, Unknown}
+use Rattle.answer.specs.declared.command.Kind.the-variants.{Informs, Weighs, Zeroes, Resets, Shows, Sends, Tares, Unknown}
 use Rattle.answer.specs.declared.answer.Answer.{Answer}
 use Rattle.answer.specs.declared.answer.Answer.the-variants.{Plain, CommandList, Versions}
 use Rattle.answer.specs.declared.answer.Answer.the-variants as answers
 use Rattle.answer.specs.declared.answer.Status.the-variants.{A, I, L}
 use Rattle.line.specs.declared.judge.Situation.{Situation}
 use Rattle.line.specs.declared.judge.Verdict.{Verdict}
-use Rattle.line.specs.declared.judge.Verdict.the-variants.{Erroneous, Reset, Busy, Wrong, NoSample, Run, Preset, Show}
+use Rattle.line.specs.declared.judge.Verdict.the-variants.{Erroneous, Reset, Busy, Wrong, NoSample, Run, Preset, Change, Show}
 use Rattle.line.specs.declared.receive.Line.{Line}
 use Rattle.line.specs.Judging.{judgement}
 use Rattle.line.specs.Receiving.{clearedLine, receivedByte}
 use Rattle.model.specs.declared.profile.Profile.{Profile}
+use Rattle.model.specs.declared.sending.Mode.{Mode}
+use Rattle.model.specs.declared.sending.Mode.the-variants.{Off, EachSample}
 use Rattle.model.specs.declared.state.Pending.the-variants.{Weigh, Zero, Tare}
+use Rattle.model.specs.declared.state.Pending.the-variants as pendings
 use Rattle.model.specs.declared.state.Display.{Display}
 use Rattle.model.specs.declared.state.State.{State}
 use Rattle.model.specs.States.{isPending}
 use Rattle.model.specs.declared.react.Reaction.{Reaction}
-use Rattle.model.specs.Groups.{withLine, withWeighing, withRepeating, withDisplay, reaction, chosenReaction, notWaiting}
+use Rattle.model.specs.Groups.{withLine, withWeighing, withSending, withMode, withDisplay, reaction, chosenReaction, notWaiting}
+use Rattle.waiting.specs.Changes.{withThreshold}
 use Rattle.waiting.specs.Waits.{measuredReaction, begun}
 use Rattle.answer.specs.Lines.{headOf}
 use Rattle.weighing.specs.Weighings.{stability, weighed, withTare, zeroed, tared, tareAnswer}
@@ -37,12 +41,19 @@ informationOf c = cond (isI0 c) CommandList (cond (isI1 c) Versions (cond (hasTe
 abbrev pub informed : State → ℕ → Reaction
 informed s c = reaction s (informationOf c)
 
--- S waits, SI and SIR take the latest sample; S and SI end a repetition, SIR starts one
+-- nothing is sent unasked after S and SI, and each sample after SIR
+abbrev pub modeAfter : ℕ → Mode
+modeAfter c = cond (isSIR c) EachSample Off
+
+abbrev pub sendingAs : State → Mode → State
+sendingAs s mode = withSending s (withMode (s .sending) mode)
+
+-- S waits, SI and SIR take the latest sample; S and SI end a repetition and SR, SIR starts a repetition
 unfoldable pub weighing : Profile → State → ℕ → Reaction
 weighing p s c =
     chosenReaction (mayWait c)
-    (begun p (withRepeating s false) Weigh)
-    (reaction (withRepeating s (isSIR c)) (weighed p (s .weighing)))
+    (begun p (sendingAs s Off) Weigh)
+    (reaction (sendingAs s (modeAfter c)) (weighed p (s .weighing)))
 
 -- Z waits, ZI takes the latest sample
 unfoldable pub zeroing : Profile → State → ℕ → Reaction
@@ -63,6 +74,10 @@ unanswered s = reaction s answers.Nothing
 unfoldable pub showing : State → ℕ → Reaction
 showing s c = chosenReaction (isDW c) (showingWeight s) (unanswered s)
 
+-- SR with this threshold, 0 for none, waits as S; it ends a repetition and an earlier SR
+unfoldable pub changing : Profile → State → ℕ → Reaction
+changing p s threshold = begun p (withSending s (withThreshold (s .sending) threshold)) pendings.Change
+
 -- T, TI, TAC, TA alone
 unfoldable pub taring : Profile → State → ℕ → Reaction
 taring p s c =
@@ -78,6 +93,7 @@ runAs Weighs p s c = weighing p s c
 runAs Zeroes p s c = zeroing p s c
 runAs Resets p s c = unanswered s
 runAs Shows p s c = showing s c
+runAs Sends p s c = changing p s 0
 runAs Tares p s c = taring p s c
 runAs Unknown p s c = unanswered s
 
@@ -86,18 +102,18 @@ run p s c = runAs (kindOf c) p s c
 
 -- ---- a finished line
 
--- the identification is the name; for SI and SIR it is S
+-- the identification is the name; for SI, SIR and SR it is S
 abbrev pub identificationOf : ℕ → ℕ
-identificationOf c = cond (isSI c || isSIR c) placeS c
+identificationOf c = cond (isSI c || isSIR c || isSR c) placeS c
 
--- @: waiting command dropped unanswered, repetition ended, tare 0, weight shown; zero and latest sample are kept
+-- @: waiting command dropped unanswered, repetition and SR ended, tare 0, weight shown; zero and latest sample are kept
 unfoldable pub resetState : State → State
 resetState s =
     record {
       line = s .line;
       weighing = withTare (s .weighing) 0;
       waiting = notWaiting;
-      repeating = false;
+      sending = withMode (s .sending) Off;
       display = weightShown (s .display);
     }
 
@@ -111,10 +127,11 @@ abbrev pub performed : Profile → State → Line → Verdict → Reaction
 performed p s l (Erroneous e) = reaction s (answers.ErrorLine e)
 performed p s l Reset = reaction (resetState s) (answers.Text placeI4)
 performed p s l (Busy c) = reaction s (Plain (headOf (identificationOf c) I))
-performed p s l (Wrong c) = reaction s (Plain (headOf c L))
+performed p s l (Wrong c) = reaction s (Plain (headOf (identificationOf c) L))
 performed p s l (NoSample c) = reaction s (Plain (headOf (identificationOf c) I))
 performed p s l (Run c) = run p s c
 performed p s l (Preset m) = reaction (withWeighing s (withTare (s .weighing) (m .0))) (tareAnswer p (m .0))
+performed p s l (Change t) = changing p s (t .0)
 performed p s l (Show n) = reaction (withDisplay s (textShown (s .display) l n)) (Plain (headOf placeD A))
 
 -- ---- a byte

@@ -10,6 +10,7 @@ ghost use Rattle.commands.specs.Reactions as meaning;
 ghost use Rattle.model.specs.Groups as groups;
 ghost use Rattle.answer.specs.Lines as lines;
 ghost use Rattle.weighing.specs.Weighings as weights;
+use crate::run::change;
 use crate::run::run;
 use crate::run::weight_shown;
 use answer::Answer;
@@ -18,6 +19,7 @@ use answer::I4;
 use answer::S;
 use answer::SI;
 use answer::SIR;
+use answer::SR;
 use answer::Status;
 use answer::plain;
 use line::Line;
@@ -26,6 +28,7 @@ use line::Verdict;
 use line::cleared;
 use line::judge_line;
 use model::Display;
+use model::Mode;
 use model::Profile;
 use model::Reaction;
 use model::State;
@@ -34,6 +37,7 @@ use model::answered;
 use model::is_pending;
 use model::with_display;
 use model::with_line;
+use model::with_mode;
 use model::with_weighing;
 use waiting::not_waiting;
 use weighing::tare_answer;
@@ -41,12 +45,12 @@ use weighing::with_tare;
 use weight::NO_TARE;
 use weight::Tare;
 
-// The name's place; for SI and SIR that of S.
+// The name's place; for SI, SIR and SR that of S.
 fn identification_of(command: u8) -> u8
     ensures { λ r. ⌜ r ≡ meaning.identificationOf command ⌝ }
 {
-    let immediate = (command == SI) | (command == SIR);
-    if immediate {
+    let weighs = (command == SI) | (command == SIR) | (command == SR);
+    if weighs {
         return S;
     }
     command
@@ -59,6 +63,13 @@ fn not_possible(state: State, command: u8) -> Reaction
     answered(state, plain(identification_of(command), Status::I))
 }
 
+// L: a wrong parameter.
+fn not_understood(state: State, command: u8) -> Reaction
+    ensures { λ r. ⌜ r ≡ groups.reaction state (Answer.Plain (lines.headOf (meaning.identificationOf command) Status.L)) ⌝ }
+{
+    answered(state, plain(identification_of(command), Status::L))
+}
+
 // @: zero and the latest sample are kept.
 fn reset_state(state: State) -> State
     ensures { λ r. ⌜ r ≡ meaning.resetState state ⌝ }
@@ -66,11 +77,12 @@ fn reset_state(state: State) -> State
     let line = state.line;
     let weighing = state.weighing;
     let display = state.display;
+    let sending = state.sending;
     State {
         line,
         weighing: with_tare(weighing, NO_TARE),
         waiting: not_waiting(),
-        repeating: false,
+        sending: with_mode(sending, Mode::Off),
         display: weight_shown(display),
     }
 }
@@ -137,10 +149,11 @@ fn performed(profile: Profile, state: State, line: Line, verdict: Verdict) -> Re
         Verdict::Erroneous(error) => answered(state, Answer::ErrorLine(error)),
         Verdict::Reset => answered(reset_state(state), Answer::Text(I4)),
         Verdict::Busy(command) => not_possible(state, command),
-        Verdict::Wrong(command) => answered(state, plain(command, Status::L)),
+        Verdict::Wrong(command) => not_understood(state, command),
         Verdict::NoSample(command) => not_possible(state, command),
         Verdict::Run(command) => run(profile, state, command),
         Verdict::Preset(tare) => preset(profile, state, tare),
+        Verdict::Change(threshold) => change(profile, state, threshold),
         Verdict::Show(len) => show_text(state, line, len),
     }
 }

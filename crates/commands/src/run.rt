@@ -18,16 +18,19 @@ use answer::kind_of;
 use answer::may_wait;
 use answer::plain;
 use model::Display;
+use model::Mode;
 use model::Pending;
 use model::Profile;
 use model::Reaction;
 use model::State;
 use model::answered;
 use model::with_display;
-use model::with_repeating;
+use model::with_mode;
+use model::with_sending;
 use model::with_weighing;
 use waiting::begun;
 use waiting::measured_reaction;
+use waiting::with_threshold;
 use weighing::stability;
 use weighing::tare_answer;
 use weighing::tared;
@@ -35,6 +38,8 @@ use weighing::weighed;
 use weighing::with_tare;
 use weighing::zeroed;
 use weight::NO_TARE;
+use weight::NO_THRESHOLD;
+use weight::Threshold;
 
 fn information(command: u8) -> Answer
     ensures { λ r. ⌜ r ≡ meaning.informationOf command ⌝ }
@@ -58,16 +63,32 @@ fn informed(state: State, command: u8) -> Reaction
     answered(state, information(command))
 }
 
-// S, SI and SIR: the first two end a repetition, and the third starts one.
+// Nothing is sent unasked after S and SI, and each sample after SIR.
+fn mode_after(command: u8) -> Mode
+    ensures { λ r. ⌜ r ≡ meaning.modeAfter command ⌝ }
+{
+    if command == SIR {
+        return Mode::EachSample;
+    }
+    Mode::Off
+}
+
+pub fn sending_as(state: State, mode: Mode) -> State
+    ensures { λ r. ⌜ r ≡ meaning.sendingAs state mode ⌝ }
+{
+    let sending = state.sending;
+    with_sending(state, with_mode(sending, mode))
+}
+
+// S, SI and SIR: the first two end a repetition and SR, and the third starts a repetition.
 fn run_weighing(profile: Profile, state: State, command: u8) -> Reaction
     ensures { λ r. ⌜ r ≡ meaning.weighing profile state command ⌝ }
 {
     if may_wait(command) {
-        return begun(profile, with_repeating(state, false), Pending::Weigh);
+        return begun(profile, sending_as(state, Mode::Off), Pending::Weigh);
     }
     let weighing = state.weighing;
-    let repeats = command == SIR;
-    answered(with_repeating(state, repeats), weighed(profile, weighing))
+    answered(sending_as(state, mode_after(command)), weighed(profile, weighing))
 }
 
 // Z and ZI.
@@ -116,6 +137,15 @@ fn run_showing(state: State, command: u8) -> Reaction
     unanswered(state)
 }
 
+// SR, with its threshold.
+pub fn change(profile: Profile, state: State, threshold: Threshold) -> Reaction
+    ensures { λ r. ⌜ r ≡ meaning.changing profile state (threshold .0) ⌝ }
+{
+    let sending = state.sending;
+    let ended = with_sending(state, with_threshold(sending, threshold));
+    begun(profile, ended, Pending::Change)
+}
+
 // T, TI, TAC and TA alone.
 fn run_taring(profile: Profile, state: State, command: u8) -> Reaction
     ensures { λ r. ⌜ r ≡ meaning.taring profile state command ⌝ }
@@ -148,6 +178,7 @@ pub fn run(profile: Profile, state: State, command: u8) -> Reaction
         Kind::Zeroes => run_zeroing(profile, state, command),
         Kind::Resets => unanswered(state),
         Kind::Shows => run_showing(state, command),
+        Kind::Sends => change(profile, state, NO_THRESHOLD),
         Kind::Tares => run_taring(profile, state, command),
         Kind::Unknown => unanswered(state),
     }

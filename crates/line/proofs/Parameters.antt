@@ -1,4 +1,4 @@
--- The parameters of D and TA: each way of the code against the definition.
+-- The parameters of D, TA and SR: each way of the code against the definition.
 -- Assumes nothing.
 use mathlib.Core.Path.{_≡_, sym, ap, _∙_}
 use mathlib.Core.Bool.{Bool, true, false, _&&_, and-false, and-eq-true-iff}
@@ -9,16 +9,17 @@ use lib.Dec.{leb, eqb}
 use lib.ListN.{length, getD, take, drop, length-take, length-drop}
 use lib.Seq.{length-take-le}
 use borrow.Author.Tests.{le-leb, lt-leb, lt-ltb, le-ltb, leb-true}
-use Rattle.answer.specs.Commands.{placeD, placeTA}
+use Rattle.answer.specs.Commands.{placeD, placeSR, placeTA}
 use Rattle.line.specs.declared.judge.Situation.{Situation}
 use Rattle.line.specs.declared.judge.Verdict.{Verdict}
-use Rattle.line.specs.declared.judge.Verdict.the-variants.{Wrong, Preset, Show}
+use Rattle.line.specs.declared.judge.Verdict.the-variants.{Wrong, Preset, Change, Show}
 use Rattle.text.specs.Printable.{isPrintable}
-use Rattle.line.specs.Judging.{isShown, betweenQuotes, isQuoted, isPreset}
-use Rattle.line.specs.Parts.{showRule, amountRule, presetRule}
+use Rattle.line.specs.Judging.{isShown, betweenQuotes, isQuoted, typedIn, thresholdOf, thresholdIn}
+use Rattle.line.specs.Parts.{showRule, amountRule, presetRule, thresholdRule, changeRule}
 use Rattle.weight.specs.declared.amount.Tare.{Tare}
 use Rattle.weight.specs.declared.amount.Typed.{Typed}
 use Rattle.weight.specs.declared.amount.Typed.the-variants.{Amount, TooLarge, NotTyped}
+use Rattle.weight.specs.declared.changes.Threshold.{Threshold}
 use Rattle.weight.specs.Characters.{space}
 use Rattle.text.specs.Ascii.{sameText}
 use Rattle.text.specs.Searching.{FirstAt, afterSpace, hasSpace}
@@ -95,25 +96,61 @@ module _ (capacity : ℕ) (n : Typed) where
   unfolding amountRule
   not-typed told = rw told
 
+-- ---- SR
+
+module _ (capacity : ℕ) (n : Typed) where
+  module _ {m : Tare} {t : Threshold} (told : n ≡ Amount m) (same : t .0 ≡ m .0) {within : Bool} (known : within ≡ leb (t .0) capacity) where
+    limits : thresholdOf capacity n ≡ (leb 1 (t .0) && within)
+    limits = rw (told, sym same, known)
+
+    number : t ≡ thresholdIn n
+    number = rw (told, sym same)
+
+    pub within-limits : (leb 1 (t .0) && within) ≡ true → Change t ≡ thresholdRule capacity n
+    unfolding thresholdRule
+    within-limits e = ap Change number ∙ rw (limits ∙ e)
+
+    pub outside-limits : (leb 1 (t .0) && within) ≡ false → Wrong placeSR ≡ thresholdRule capacity n
+    unfolding thresholdRule
+    outside-limits e = rw (limits ∙ e)
+
+  pub threshold-too-large : n ≡ TooLarge → Wrong placeSR ≡ thresholdRule capacity n
+  unfolding thresholdRule
+  threshold-too-large told = rw told
+
+  pub threshold-not-typed : n ≡ NotTyped → Wrong placeSR ≡ thresholdRule capacity n
+  unfolding thresholdRule
+  threshold-not-typed told = rw told
+
+-- ---- number, space, unit
+
 module _ (j : Situation) (p : List ℕ) (i : ℕ) (at : FirstAt space p i) where
   pub number-cells : i ≡ length (take i p)
   number-cells = sym (length-take-le i p (at .in-text))
 
-  pub no-space : length p ≤ i → Wrong placeTA ≡ presetRule j p
-  unfolding presetRule isPreset
+  pub no-space : length p ≤ i → NotTyped ≡ typedIn j p
+  unfolding typedIn
   no-space h = rw (sym (at .has) ∙ le-ltb i (length p) h)
 
   -- what stands after the space is compared with the unit
-  module _ {same : Bool} (known : same ≡ sameText (take (length p - (i + 1)) (drop (i + 1) p)) (unitText (j .resolution .unit))) (h : i < length p) where
+  module _ {same : Bool} (known : same ≡ sameText (take (length p - (i + 1)) (drop (i + 1) p)) (unitText (j .resolution .unit))) where
     unit-of : sameText (afterSpace p) (unitText (j .resolution .unit)) ≡ same
     unit-of = sym (known ∙ ap (λ (t : List ℕ). sameText t (unitText (j .resolution .unit))) (rest-is (i + 1) p ∙ at .after))
 
-    pub other-unit : same ≡ false → Wrong placeTA ≡ presetRule j p
-    unfolding presetRule isPreset
+    pub other-unit : same ≡ false → NotTyped ≡ typedIn j p
+    unfolding typedIn
     other-unit e = rw (unit-of ∙ e, and-false (hasSpace p))
 
-    pub own-unit : {n : Typed} {r : Verdict} → same ≡ true → n ≡ readTyped (j .resolution .unit) (take i p) → r ≡ amountRule (j .capacity) n
-        → r ≡ presetRule j p
-    unfolding presetRule isPreset amountRule
-    own-unit e f g =
-        g ∙ ap (amountRule (j .capacity)) (f ∙ ap (readTyped (j .resolution .unit)) (at .before)) ∙ rw (unit-of ∙ e, sym (at .has) ∙ lt-ltb i (length p) h)
+    pub own-unit : {n : Typed} → i < length p → same ≡ true → n ≡ readTyped (j .resolution .unit) (take i p) → n ≡ typedIn j p
+    unfolding typedIn
+    own-unit h e f = f ∙ ap (readTyped (j .resolution .unit)) (at .before) ∙ rw (unit-of ∙ e, sym (at .has) ∙ lt-ltb i (length p) h)
+
+-- what is read is judged
+module _ (j : Situation) (p : List ℕ) {n : Typed} {r : Verdict} (read : n ≡ typedIn j p) where
+  pub preset-read : r ≡ amountRule (j .capacity) n → r ≡ presetRule j p
+  unfolding presetRule
+  preset-read e = e ∙ ap (amountRule (j .capacity)) read
+
+  pub change-read : r ≡ thresholdRule (j .capacity) n → r ≡ changeRule j p
+  unfolding changeRule
+  change-read e = e ∙ ap (thresholdRule (j .capacity)) read

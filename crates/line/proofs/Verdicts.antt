@@ -9,16 +9,16 @@ use lib.Dec.{leb, ltb}
 use lib.ListN.{length, take, drop, length-map, length-take, length-drop}
 use lib.Seq.{take-take}
 use borrow.Author.Tests.{eqb-true, eqb-false, leb-true, leb-false, ltb-false, not-true, not-false}
-use Rattle.answer.specs.Commands.{commandCount, isD, isReset, isTA, nameOf, names, needsSample, placeD, placeIn, placeOf, placeReset, placeTA, takesParameters}
+use Rattle.answer.specs.Commands.{commandCount, isD, isReset, isSR, isTA, nameOf, names, needsSample, placeD, placeIn, placeOf, placeReset, placeSR, placeTA, takesParameters}
 use Rattle.answer.proofs.Rows.{parameters-are}
 use Rattle.answer.proofs.Names.{found-name}
 use Rattle.line.specs.declared.receive.Line.{Line}
 use Rattle.line.specs.declared.judge.Situation.{Situation}
 use Rattle.line.specs.declared.judge.Verdict.{Verdict}
-use Rattle.line.specs.declared.judge.Verdict.the-variants.{Erroneous, Reset, Busy, Wrong, NoSample, Run, Preset, Show}
+use Rattle.line.specs.declared.judge.Verdict.the-variants.{Erroneous, Reset, Busy, Wrong, NoSample, Run, Preset, Change, Show}
 use Rattle.text.specs.Searching.{beforeSpace, afterSpace, hasSpace}
 use Rattle.text.specs.Printable.{isPrintable}
-use Rattle.line.specs.Judging.{hasControl, commandIn, isShown, betweenQuotes, isQuoted, typedIn, presetOf, amountIn, isPreset, isWrong, ownRule, firstRow, judgement}
+use Rattle.line.specs.Judging.{hasControl, commandIn, isShown, betweenQuotes, isQuoted, typedIn, presetOf, amountIn, thresholdOf, thresholdIn, isPreset, isThreshold, isWrong, ownRule, firstRow, judgement}
 use Rattle.line.specs.Receiving.{contentOf, lineLimit}
 use Rattle.line.specs.Unbounded.{Marked, byteIn, anyFaulty, judgementOf}
 use Rattle.line.proofs.Kept.{Holds}
@@ -26,6 +26,7 @@ use Rattle.line.proofs.Parameters.{Between, shown-between}
 use Rattle.weight.specs.declared.amount.Tare.{Tare}
 use Rattle.weight.specs.declared.amount.Typed.{Typed}
 use Rattle.weight.specs.declared.amount.Typed.the-variants.{Amount, TooLarge, NotTyped}
+use Rattle.weight.specs.declared.changes.Threshold.{Threshold}
 use Rattle.weight.specs.Characters.{space}
 use Rattle.text.specs.Ascii.{ascii, sameText}
 use Rattle.text.specs.UnitTexts.{unitText}
@@ -48,16 +49,24 @@ isOwn (Wrong c) = false
 isOwn (NoSample c) = false
 isOwn (Run c) = true
 isOwn (Preset m) = true
+isOwn (Change t) = true
 isOwn (Show n) = true
 
-own-by : (d ta : Bool) (n c : ℕ) (m : Tare) → isOwn (cond d (Show n) (cond ta (Preset m) (Run c))) ≡ true
-own-by true ta n c m = refl
-own-by false true n c m = refl
-own-by false false n c m = refl
+-- row 8 by its tests
+abbrev chosen : Bool → Bool → Bool → ℕ → Tare → Threshold → ℕ → Verdict
+chosen d ta sr n m t c = cond d (Show n) (cond ta (Preset m) (cond sr (Change t) (Run c)))
+
+own-by : (d ta sr : Bool) (n : ℕ) (m : Tare) (t : Threshold) (c : ℕ) → isOwn (chosen d ta sr n m t c) ≡ true
+own-by true ta sr n m t c = refl
+own-by false true sr n m t c = refl
+own-by false false true n m t c = refl
+own-by false false false n m t c = refl
 
 own-is : (j : Situation) (c : ℕ) (t : List ℕ) → isOwn (ownRule j c t) ≡ true
 unfolding ownRule
-own-is j c t = own-by (isD c) (isTA c && hasSpace t) (length (afterSpace t) - 2) c (amountIn (typedIn j (afterSpace t)))
+own-is j c t =
+    own-by (isD c) (isTA c && hasSpace t) (isSR c && hasSpace t) (length (afterSpace t) - 2) (amountIn (typedIn j (afterSpace t)))
+    (thresholdIn (typedIn j (afterSpace t))) c
 
 -- rows 1 to 3 do not apply
 record Known (faulty unknown extra : Bool) : Type 0 where
@@ -109,6 +118,7 @@ isKept (Wrong c) = true
 isKept (NoSample c) = true
 isKept (Run c) = false
 isKept (Preset m) = false
+isKept (Change t) = false
 isKept (Show n) = false
 
 abbrev keptFrom : Verdict → ℕ
@@ -119,6 +129,7 @@ keptFrom (Wrong c) = c
 keptFrom (NoSample c) = c
 keptFrom (Run c) = 0
 keptFrom (Preset m) = 0
+keptFrom (Change t) = 0
 keptFrom (Show n) = 0
 
 abbrev keptBy : Verdict → Bool → Bool → Bool → Bool
@@ -129,6 +140,7 @@ keptBy (Wrong c) w g n = g
 keptBy (NoSample c) w g n = n
 keptBy (Run c) w g n = false
 keptBy (Preset m) w g n = false
+keptBy (Change t) w g n = false
 keptBy (Show n′) w g n = false
 
 own-not-kept : (v : Verdict) → isOwn v ≡ true → isKept v ≡ false
@@ -139,6 +151,7 @@ own-not-kept (Wrong c) o = never (cc)
 own-not-kept (NoSample c) o = never (cc)
 own-not-kept (Run c) o = refl
 own-not-kept (Preset m) o = refl
+own-not-kept (Change t) o = refl
 own-not-kept (Show n) o = refl
 
 record Kept (faulty unknown extra reset waiting wrong missing : Bool) (c : ℕ) (v : Verdict) : Type 0 where
@@ -214,6 +227,16 @@ pub record PresetLine (j : Situation) (f : List Marked) (m : Tare) : Type 0 wher
   pub within : m .0 ≤ j .capacity
   pub free : j .waiting ≡ false
 
+-- a line judged to SR with the threshold t
+pub record ChangeLine (j : Situation) (f : List Marked) (t : Threshold) : Type 0 where
+  pub line : GoodLine f (ascii "SR " ++ parameterIn f)
+  pub unit : afterSpace (parameterIn f) ≡ unitText (j .resolution .unit)
+  pub number : readTyped (j .resolution .unit) (beforeSpace (parameterIn f)) ≡ Amount (record { 0 = t .0 })
+  pub typed : typedIn j (parameterIn f) ≡ Amount (record { 0 = t .0 })
+  pub least : 1 ≤ t .0
+  pub within : t .0 ≤ j .capacity
+  pub free : j .waiting ≡ false
+
 -- a line judged to D with a text of n bytes, from its fourth on
 pub record ShowLine (j : Situation) (f : List Marked) (n : ℕ) : Type 0 where
   pub line : GoodLine f (ascii "D " ++ parameterIn f)
@@ -257,32 +280,44 @@ no-space true true e a = never (cc)
 no-space true false e a = never (cc)
 no-space false takes e a = refl
 
-nothing-after : (h d ta : Bool) → d ≡ false → (ta && h) ≡ false → (h && not (d || ta)) ≡ false → h ≡ false
-nothing-after true d true e a b = never (cc)
-nothing-after true d false e a b = never (cc)
-nothing-after false d ta e a b = refl
+nothing-after : (h d sr ta : Bool) → d ≡ false → (ta && h) ≡ false → (sr && h) ≡ false → (h && not (d || sr || ta)) ≡ false → h ≡ false
+nothing-after true d sr true e a s b = never (cc)
+nothing-after true d true false e a s b = never (cc)
+nothing-after true d false false e a s b = never (cc)
+nothing-after false d sr ta e a s b = refl
 
 -- what row 8 gave
-run-by : (d ta : Bool) (n c k : ℕ) (m : Tare) → cond d (Show n) (cond ta (Preset m) (Run c)) ≡ Run k → (d ≡ false) × (ta ≡ false) × (c ≡ k)
-run-by true ta n c k m e = never (cc)
-run-by false true n c k m e = never (cc)
-run-by false false n c k m e = (refl, refl, cc)
+run-by : (d ta sr : Bool) (n : ℕ) (m : Tare) (t : Threshold) (c k : ℕ) → chosen d ta sr n m t c ≡ Run k
+    → (d ≡ false) × (ta ≡ false) × (sr ≡ false) × (c ≡ k)
+run-by true ta sr n m t c k e = never (cc)
+run-by false true sr n m t c k e = never (cc)
+run-by false false true n m t c k e = never (cc)
+run-by false false false n m t c k e = (refl, refl, refl, cc)
 
-preset-by : (d ta : Bool) (n c : ℕ) (m p : Tare) → cond d (Show n) (cond ta (Preset m) (Run c)) ≡ Preset p → (d ≡ false) × (ta ≡ true) × (m ≡ p)
-preset-by true ta n c m p e = never (cc)
-preset-by false true n c m p e = (refl, refl, cc)
-preset-by false false n c m p e = never (cc)
+preset-by : (d ta sr : Bool) (n : ℕ) (m : Tare) (t : Threshold) (c : ℕ) (p : Tare) → chosen d ta sr n m t c ≡ Preset p → (ta ≡ true) × (m ≡ p)
+preset-by true ta sr n m t c p e = never (cc)
+preset-by false true sr n m t c p e = (refl, cc)
+preset-by false false true n m t c p e = never (cc)
+preset-by false false false n m t c p e = never (cc)
 
-show-by : (d ta : Bool) (n c k : ℕ) (m : Tare) → cond d (Show n) (cond ta (Preset m) (Run c)) ≡ Show k → (d ≡ true) × (n ≡ k)
-show-by true ta n c k m e = (refl, cc)
-show-by false true n c k m e = never (cc)
-show-by false false n c k m e = never (cc)
+change-by : (d ta sr : Bool) (n : ℕ) (m : Tare) (t : Threshold) (c : ℕ) (p : Threshold) → chosen d ta sr n m t c ≡ Change p → (sr ≡ true) × (t ≡ p)
+change-by true ta sr n m t c p e = never (cc)
+change-by false true sr n m t c p e = never (cc)
+change-by false false true n m t c p e = (refl, cc)
+change-by false false false n m t c p e = never (cc)
+
+show-by : (d ta sr : Bool) (n : ℕ) (m : Tare) (t : Threshold) (c k : ℕ) → chosen d ta sr n m t c ≡ Show k → (d ≡ true) × (n ≡ k)
+show-by true ta sr n m t c k e = (refl, cc)
+show-by false true sr n m t c k e = never (cc)
+show-by false false true n m t c k e = never (cc)
+show-by false false false n m t c k e = never (cc)
 
 -- wrong parameters are those of a name that takes some
-wrong-takes : (d ta x y : Bool) → (d && x || ta && y) ≡ true → (d || ta) ≡ true
-wrong-takes true ta x y e = refl
-wrong-takes false true x y e = refl
-wrong-takes false false x y e = never (cc)
+wrong-takes : (d sr ta x y z : Bool) → (d && x || ta && y || sr && z) ≡ true → (d || sr || ta) ≡ true
+wrong-takes true sr ta x y z e = refl
+wrong-takes false true ta x y z e = refl
+wrong-takes false false true x y z e = refl
+wrong-takes false false false x y z e = never (cc)
 
 -- D with right parameters: the space after it, and the text between quotes
 record Showing (c : ℕ) (t : List ℕ) (n : ℕ) : Type 0 where
@@ -294,10 +329,12 @@ record Showing (c : ℕ) (t : List ℕ) (n : ℕ) : Type 0 where
 showing : (j : Situation) (c n : ℕ) (t : List ℕ) → isWrong j c t ≡ false → ownRule j c t ≡ Show n → Showing c t n
 unfolding ownRule isWrong
 showing j c n t right own =
-    let by = show-by (isD c) (isTA c && hasSpace t) (length (afterSpace t) - 2) c n (amountIn (typedIn j (afterSpace t))) own in
+    let by = show-by (isD c) (isTA c && hasSpace t) (isSR c && hasSpace t) (length (afterSpace t) - 2) (amountIn (typedIn j (afterSpace t)))
+    (thresholdIn (typedIn j (afterSpace t))) c n own in
     let is : c ≡ placeD = eqb-true c placeD (by .0) in
     let fine : (hasSpace t && isQuoted (afterSpace t)) ≡ true =
-    not-false (hasSpace t && isQuoted (afterSpace t)) (neither-left (not (hasSpace t && isQuoted (afterSpace t))) false (rw is at right)) in
+    not-false (hasSpace t && isQuoted (afterSpace t)) (neither-left (not (hasSpace t && isQuoted (afterSpace t))) false
+    (neither-left (not (hasSpace t && isQuoted (afterSpace t)) || false) false (rw is at right))) in
     let both = and-eq-true-iff (hasSpace t) (isQuoted (afterSpace t)) .0 fine in
     record { is = is; spaced = both .0; quotes = shown-between (afterSpace t) (both .1); count = by .1 }
 
@@ -306,6 +343,37 @@ amount-by : (capacity : ℕ) (n : Typed) → presetOf capacity n ≡ true → (n
 amount-by capacity (Amount m) e = (refl, leb-true (m .0) capacity e)
 amount-by capacity TooLarge e = never (cc)
 amount-by capacity NotTyped e = never (cc)
+
+-- and that is not 0
+threshold-by : (capacity : ℕ) (n : Typed) → thresholdOf capacity n ≡ true
+    → (n ≡ Amount (amountIn n)) × (1 ≤ amountIn n .0) × (amountIn n .0 ≤ capacity)
+threshold-by capacity (Amount m) e =
+    let both = and-eq-true-iff (leb 1 (m .0)) (leb (m .0) capacity) .0 e in
+    (refl, leb-true 1 (m .0) (both .0), leb-true (m .0) capacity (both .1))
+threshold-by capacity TooLarge e = never (cc)
+threshold-by capacity NotTyped e = never (cc)
+
+-- a parameter with a number: number, space, the profile's unit
+record Numbered (j : Situation) (p : List ℕ) (m : Tare) : Type 0 where
+  parts : p ≡ beforeSpace p ++ (space ∷ unitText (j .resolution .unit))
+  unit : afterSpace p ≡ unitText (j .resolution .unit)
+  number : readTyped (j .resolution .unit) (beforeSpace p) ≡ Amount m
+
+read-by : (right : Bool) (n : Typed) (m : Tare) → cond right n NotTyped ≡ Amount m → (right ≡ true) × (n ≡ Amount m)
+read-by true n m e = (refl, e)
+read-by false n m e = never (cc)
+
+numbered : (j : Situation) (p : List ℕ) (m : Tare) → typedIn j p ≡ Amount m → Numbered j p m
+unfolding typedIn
+numbered j p m e =
+    let by = read-by (hasSpace p && sameText (afterSpace p) (unitText (j .resolution .unit))) (readTyped (j .resolution .unit) (beforeSpace p)) m e in
+    let both = and-eq-true-iff (hasSpace p) (sameText (afterSpace p) (unitText (j .resolution .unit))) .0 (by .0) in
+    let unit : afterSpace p ≡ unitText (j .resolution .unit) = same-is (afterSpace p) (unitText (j .resolution .unit)) (both .1) in
+    record {
+      parts = first-between space p (both .0) ∙ ap (λ (x : List ℕ). beforeSpace p ++ (space ∷ x)) unit;
+      unit = unit;
+      number = by .1;
+    }
 
 module _ (j : Situation) (f : List Marked) where
   abbrev c : ℕ
@@ -351,40 +419,66 @@ module _ (j : Situation) (f : List Marked) where
   run-line {k} e =
       let row = last refl e in
       let b : Begins f = begins f (row .known) in
-      let by = run-by (isD c) (isTA c && hasSpace (map byteIn f)) (length (parameterIn f) - 2) c k (amountIn (typedIn j (parameterIn f))) (row .own-rule) in
+      let by = run-by (isD c) (isTA c && hasSpace (map byteIn f)) (isSR c && hasSpace (map byteIn f)) (length (parameterIn f) - 2)
+      (amountIn (typedIn j (parameterIn f))) (thresholdIn (typedIn j (parameterIn f))) c k (row .own-rule) in
       let single : hasSpace (map byteIn f) ≡ false =
-      nothing-after (hasSpace (map byteIn f)) (isD c) (isTA c) (by .0) (by .1) (rw (← (parameters-are c)) at (b .alone)) in
+      nothing-after (hasSpace (map byteIn f)) (isD c) (isSR c) (isTA c) (by .0) (by .1) (by .2) (rw (← (parameters-are c)) at (b .alone)) in
       record {
-        line = record { bytes = name-alone (map byteIn f) (b .a-name) single ∙ ap nameOf (by .2); good = b .good };
-        a-name = rw (by .2) at (b .a-name);
-        no-reset = rw (by .2) at (eqb-false c placeReset (row .no-reset));
-        no-show = rw (by .2) at (eqb-false c placeD (by .0));
+        line = record { bytes = name-alone (map byteIn f) (b .a-name) single ∙ ap nameOf (by .3); good = b .good };
+        a-name = rw (by .3) at (b .a-name);
+        no-reset = rw (by .3) at (eqb-false c placeReset (row .no-reset));
+        no-show = rw (by .3) at (eqb-false c placeD (by .0));
         free = row .free;
-        has-sample = rw (by .2) at (row .sampled);
+        has-sample = rw (by .3) at (row .sampled);
       }
 
   -- ---- TA with a number
 
   pub preset-line : {m : Tare} → judgementOf j f ≡ Preset m → PresetLine j f m
-  unfolding ownRule isWrong isPreset
+  unfolding ownRule isWrong
   preset-line {m} e =
       let row = last refl e in
       let b : Begins f = begins f (row .known) in
-      let by = preset-by (isD c) (isTA c && hasSpace (map byteIn f)) (length (parameterIn f) - 2) c (amountIn (typedIn j (parameterIn f))) m (row .own-rule) in
-      let both = and-eq-true-iff (isTA c) (hasSpace (map byteIn f)) .0 (by .1) in
+      let by = preset-by (isD c) (isTA c && hasSpace (map byteIn f)) (isSR c && hasSpace (map byteIn f)) (length (parameterIn f) - 2)
+      (amountIn (typedIn j (parameterIn f))) (thresholdIn (typedIn j (parameterIn f))) c m (row .own-rule) in
+      let both = and-eq-true-iff (isTA c) (hasSpace (map byteIn f)) .0 (by .0) in
       let is : c ≡ placeTA = eqb-true c placeTA (both .0) in
       let right : isPreset j (parameterIn f) ≡ true =
-      not-false (isPreset j (parameterIn f)) (rw (is, both .1) at (row .right)) in
-      let parts = and-eq-true-iff (hasSpace (parameterIn f) && sameText (afterSpace (parameterIn f)) (unitText (j .resolution .unit))) (presetOf (j .capacity) (typedIn j (parameterIn f))) .0 right in
-      let halves = and-eq-true-iff (hasSpace (parameterIn f)) (sameText (afterSpace (parameterIn f)) (unitText (j .resolution .unit))) .0 (parts .0) in
-      let unit : afterSpace (parameterIn f) ≡ unitText (j .resolution .unit) = same-is (afterSpace (parameterIn f)) (unitText (j .resolution .unit)) (halves .1) in
-      let amount = amount-by (j .capacity) (typedIn j (parameterIn f)) (parts .1) in
+      not-false (isPreset j (parameterIn f)) (neither-left (not (isPreset j (parameterIn f))) false (rw (is, both .1) at (row .right))) in
+      let amount = amount-by (j .capacity) (typedIn j (parameterIn f)) right in
+      let n : Numbered j (parameterIn f) m = numbered j (parameterIn f) m (amount .0 ∙ ap Amount (by .1)) in
       record {
         line = record { bytes = name-then (map byteIn f) (b .a-name) (both .1) ∙ ap (λ (x : ℕ). nameOf x ++ (space ∷ parameterIn f)) is; good = b .good };
-        parts = first-between space (parameterIn f) (halves .0) ∙ ap (λ (x : List ℕ). beforeSpace (parameterIn f) ++ (space ∷ x)) unit;
-        unit = unit;
-        number = amount .0 ∙ ap Amount (by .2);
-        within = rw (by .2) at (amount .1);
+        parts = n .parts;
+        unit = n .unit;
+        number = n .number;
+        within = rw (by .1) at (amount .1);
+        free = row .free;
+      }
+
+  -- ---- SR with a number
+
+  pub change-line : {t : Threshold} → judgementOf j f ≡ Change t → ChangeLine j f t
+  unfolding ownRule isWrong
+  change-line {t} e =
+      let row = last refl e in
+      let b : Begins f = begins f (row .known) in
+      let by = change-by (isD c) (isTA c && hasSpace (map byteIn f)) (isSR c && hasSpace (map byteIn f)) (length (parameterIn f) - 2)
+      (amountIn (typedIn j (parameterIn f))) (thresholdIn (typedIn j (parameterIn f))) c t (row .own-rule) in
+      let both = and-eq-true-iff (isSR c) (hasSpace (map byteIn f)) .0 (by .0) in
+      let is : c ≡ placeSR = eqb-true c placeSR (both .0) in
+      let right : isThreshold j (parameterIn f) ≡ true = not-false (isThreshold j (parameterIn f)) (rw (is, both .1) at (row .right)) in
+      let amount = threshold-by (j .capacity) (typedIn j (parameterIn f)) right in
+      let same : amountIn (typedIn j (parameterIn f)) .0 ≡ t .0 = ap (λ (x : Threshold). x .0) (by .1) in
+      let typed : typedIn j (parameterIn f) ≡ Amount (record { 0 = t .0 }) = amount .0 ∙ ap (λ (x : Threshold). Amount (record { 0 = x .0 })) (by .1) in
+      let n : Numbered j (parameterIn f) (record { 0 = t .0 }) = numbered j (parameterIn f) (record { 0 = t .0 }) typed in
+      record {
+        line = record { bytes = name-then (map byteIn f) (b .a-name) (both .1) ∙ ap (λ (x : ℕ). nameOf x ++ (space ∷ parameterIn f)) is; good = b .good };
+        unit = n .unit;
+        number = n .number;
+        typed = typed;
+        least = rw same at (amount .1);
+        within = rw same at (amount .2);
         free = row .free;
       }
 
@@ -437,8 +531,8 @@ module _ (j : Situation) (f : List Marked) where
   wrong-line e =
       let row = kept refl e in (
         row .0,
-        rw (row .0 .command) at (sym (parameters-are c) ∙ wrong-takes (isD c) (isTA c) (not (hasSpace (map byteIn f) && isQuoted (parameterIn f)))
-            (hasSpace (map byteIn f) && not (isPreset j (parameterIn f))) (row .1)),
+        rw (row .0 .command) at (sym (parameters-are c) ∙ wrong-takes (isD c) (isSR c) (isTA c) (not (hasSpace (map byteIn f) && isQuoted (parameterIn f)))
+            (hasSpace (map byteIn f) && not (isPreset j (parameterIn f))) (hasSpace (map byteIn f) && not (isThreshold j (parameterIn f))) (row .1)),
       )
 
   pub no-sample-line : {k : ℕ} → judgementOf j f ≡ NoSample k → KeptLine f k × (needsSample k ≡ true) × (j .sampled ≡ false)

@@ -1,7 +1,7 @@
 -- `line::judge::last_rows` meets its contract.
 -- Assumes nothing.
 use borrow.Author.Needs.{needs}
-use Rattle.line.proofs.Rows.{show-parameter, show-nothing, preset-parameter, preset-asked, no-sample, runs}
+use Rattle.line.proofs.Rows.{show-parameter, show-nothing, preset-parameter, preset-asked, change-parameter, change-asked, no-sample, runs}
 use Rattle.line.proofs.judge.last_rows.Statement.{statement}
 use Rattle.line.proofs.judge.last_rows.Tie as tie
 
@@ -47,14 +47,35 @@ returns-3 c = search (needs, preset-parameter)
 returns-4 : tie.Need-returns-4
 returns-4 c = search (needs, preset-asked)
 
+add-start-3 : tie.Need-add-start-3
+add-start-3 c = search needs
+
+sub-change-rule : tie.Need-sub-change-rule
+sub-change-rule c = search needs
+
+part-change-rule-start : tie.Need-part-change-rule-start
+part-change-rule-start c = search needs
+
+part-change-rule-end : tie.Need-part-change-rule-end
+part-change-rule-end c = search needs
+
+change-rule-requires : tie.Need-change-rule-requires
+change-rule-requires c κs = search needs
+
+returns-5 : tie.Need-returns-5
+returns-5 c = search (needs, change-parameter)
+
+returns-6 : tie.Need-returns-6
+returns-6 c = search (needs, change-asked)
+
 lacks-sample-requires : tie.Need-lacks-sample-requires
 lacks-sample-requires c κs = search needs
 
-returns-5 : tie.Need-returns-5
-returns-5 c = search (needs, no-sample)
+returns-7 : tie.Need-returns-7
+returns-7 c = search (needs, no-sample)
 
-returns-6 : tie.Need-returns-6
-returns-6 c = search (needs, runs)
+returns-8 : tie.Need-returns-8
+returns-8 c = search (needs, runs)
 
 pub last-rows-spec : {M : Type 1} → statement M
 last-rows-spec =
@@ -74,6 +95,13 @@ last-rows-spec =
     preset-rule-requires
     returns-3
     returns-4
-    lacks-sample-requires
+    add-start-3
+    sub-change-rule
+    part-change-rule-start
+    part-change-rule-end
+    change-rule-requires
     returns-5
-    returns-6)
+    returns-6
+    lacks-sample-requires
+    returns-7
+    returns-8)

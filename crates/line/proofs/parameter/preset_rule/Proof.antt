@@ -1,59 +1,18 @@
 -- `line::parameter::preset_rule` meets its contract.
 -- Assumes nothing.
 use borrow.Author.Needs.{needs}
-use Rattle.line.proofs.Parameters.{number-cells, no-space, other-unit, own-unit}
+use Rattle.line.proofs.Parameters.{preset-read}
 use Rattle.line.proofs.parameter.preset_rule.Statement.{statement}
 use Rattle.line.proofs.parameter.preset_rule.Tie as tie
 
-first-at-requires : tie.Need-first-at-requires
-first-at-requires c κs = search needs
-
-returns : tie.Need-returns
-returns c = search (needs, no-space)
-
-add-start : tie.Need-add-start
-add-start c = search needs
-
-sub-is-unit : tie.Need-sub-is-unit
-sub-is-unit c = search needs
-
-part-is-unit-start : tie.Need-part-is-unit-start
-part-is-unit-start c = search needs
-
-part-is-unit-end : tie.Need-part-is-unit-end
-part-is-unit-end c = search needs
-
-is-unit-requires : tie.Need-is-unit-requires
-is-unit-requires c κs = search needs
-
-slice-aggregate-read-typed : tie.Need-slice-aggregate-read-typed
-slice-aggregate-read-typed c = search (needs, number-cells)
-
-read-typed-requires : tie.Need-read-typed-requires
-read-typed-requires c κs = search needs
+typed-in-requires : tie.Need-typed-in-requires
+typed-in-requires c κs = search needs
 
 amount-rule-requires : tie.Need-amount-rule-requires
 amount-rule-requires c κs = search needs
 
-returns-2 : tie.Need-returns-2
-returns-2 c = search (needs, own-unit)
-
-returns-3 : tie.Need-returns-3
-returns-3 c = search (needs, other-unit)
+returns : tie.Need-returns
+returns c = search (needs, preset-read)
 
 pub preset-rule-spec : {M : Type 1} → statement M
-preset-rule-spec =
-    tie.close
-    (tie.spec
-    first-at-requires
-    returns
-    add-start
-    sub-is-unit
-    part-is-unit-start
-    part-is-unit-end
-    is-unit-requires
-    slice-aggregate-read-typed
-    read-typed-requires
-    amount-rule-requires
-    returns-2
-    returns-3)
+preset-rule-spec = tie.close (tie.spec typed-in-requires amount-rule-requires returns)

@@ -88,7 +88,10 @@ fn run_weighing(profile: Profile, state: State, command: u8) -> Reaction
         return begun(profile, sending_as(state, Mode::Off), Pending::Weigh);
     }
     let weighing = state.weighing;
-    answered(sending_as(state, mode_after(command)), weighed(profile, weighing))
+    answered(
+        sending_as(state, mode_after(command)),
+        weighed(profile, weighing),
+    )
 }
 
 // Z and ZI.

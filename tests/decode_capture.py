@@ -3,8 +3,9 @@ what the manuals print.
 
     python3 tests/decode_capture.py > crates/decode/stdin
 
-The functions stand in the order of document 01; `CAPTURE`, at the end, is the order in which they
-write. docs/MANUAL-LINES.md says why the reader refuses some of the manuals' lines.
+The functions stand in the order of document 01, with what document 02 adds beside it; `CAPTURE`, at
+the end, is the order in which they write. docs/MANUAL-LINES.md says why the reader refuses some of
+the manuals' lines.
 """
 import sys
 
@@ -30,7 +31,7 @@ def weight(head, number, unit="g"):
 # ---- "Commands carried"
 
 LEVEL_0 = "I0 I1 I2 I3 I4 I5 S SI SIR Z ZI @".split()
-LEVEL_1 = "D DW T TA TAC TI".split()
+LEVEL_1 = "D DW SR T TA TAC TI".split()
 LEVELS = {**dict.fromkeys(LEVEL_0, 0), **dict.fromkeys(LEVEL_1, 1)}
 
 # ---- "The profile"
@@ -177,6 +178,13 @@ def short_lines():
     lines("@ A", "", " ", "  ")
 
 
+def near_sr():
+    # SR's identification is S, and its level 1.
+    lines("S L", "SR L", "SR I", "SR +", "SR A", "SRX I")
+    lines(weight("SR S", "1.0"), weight("SR D", "1.0"))
+    lines('I0 B 1 "SR"', 'I0 A 1 "SR"', 'I0 B 0 "SR"', 'I0 A 0 "SR"', 'I0 B 2 "SR"', 'I0 B 1 "SRU"')
+
+
 def bad_listings():
     # Status, name and level of I0's lines.
     lines('I0 C 0 "I0"')
@@ -196,9 +204,9 @@ FORMS = [
     weight("TA A", "0", "GN"),
     "Z A", "TAC A", "D A", "DW A",
     "ZI S", "ZI D",
-    "S +", "TI -", "TA L", "I3 I",
+    "S +", "TI -", "TA L", "S L", "I3 I",
     "ES", "ET", "EL",
-    'I0 B 0 "SIR"', 'I0 A 1 "TI"',
+    'I0 B 0 "SIR"', 'I0 B 1 "SR"', 'I0 A 1 "TI"',
     'I1 A "0" "2.30" "2.20"',
     'I2 A "two words"', 'I5 A ""',
 ]
@@ -251,6 +259,9 @@ def manual_003():
     # D and DW.
     lines("D A", "D R", "D I", "D L")
     lines("DW A", "DW I")
+    # SR.
+    lines(weight("S S", "100.00"), weight("S D", "115.23"), weight("S S", "200.00"))
+    lines("S I", "S L", "S +", "S -")
     # T, TA, TAC and TI.
     lines(weight("T S", "100.00"), "T I", "T +", "T -")
     lines(weight("TA A", "100.00"), "TA A 100.00 g", "TA I", "TA L")
@@ -291,6 +302,7 @@ CAPTURE = [
     weight_spaces,
     names_and_statuses,
     short_lines,
+    near_sr,
     bad_listings,
     texts,
     damaged_forms,

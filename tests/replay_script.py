@@ -1,10 +1,11 @@
-"""The stored script of crates/replay: every rule of document 01 once.
+"""The stored script of crates/replay: every rule of document 01 once, and document 02's requests.
 
     python3 tests/replay_script.py > crates/replay/stdin
 
-The functions stand in the order of document 01, one for each part of the script; `SCRIPT`, at the
-end, is the order in which they are played. The comment that heads a part of the script is the
-first line of its function. A part with no power-on goes on from the state of the part before it.
+The functions stand in the order of document 01, and those of document 02 after them, one for each
+part of the script; `SCRIPT`, at the end, is the order in which they are played. The comment that
+heads a part of the script is the first line of its function. A part with no power-on goes on from
+the state of the part before it.
 """
 import sys
 
@@ -69,9 +70,9 @@ def power_on(given=PROFILE_A, *texts):
 
 # ---- "Commands carried"
 
-NAMES = "I0 I1 I2 I3 I4 I5 S SI SIR Z ZI @ D DW T TA TAC TI".split()
-WITH_PARAMETERS = ("D", "TA")
-WAITING = ("S", "T", "Z")
+NAMES = "I0 I1 I2 I3 I4 I5 S SI SIR Z ZI @ D DW SR T TA TAC TI".split()
+WITH_PARAMETERS = ("D", "TA", "SR")
+WAITING = ("S", "T", "Z", "SR")
 
 
 def near_names():
@@ -343,8 +344,8 @@ def order_2_no_name():
     part("Order 2: a byte below 32, or no name, goes before what follows the name.")
     # No name, alone and with something after it.
     play("> ", "> s", "> Q", "> Q 1", "> SIX", "> SIX 1", "> S1", '> "S"')
-    # Below 32 after a name that takes no parameters, and in the parameters of D and TA.
-    play("> S\t", '> D "a\tb"', "> TA 1 g\r")
+    # Below 32 after a name that takes no parameters, and in the parameters of D, TA and SR.
+    play("> S\t", '> D "a\tb"', "> TA 1 g\r", "> SR 1 g\t")
     play(good("S\x1f\r\n"), good("S\x00\r\n"))
     # Bytes of 32 and more that make it no name.
     play(good(" S\r\n"), good("S\x7f\r\n"), good("\xff\r\n"))
@@ -372,7 +373,7 @@ def order_5_waiting():
         if name != "@":
             watch("> " + name)
     # Good and wrong parameters.
-    play('> D "a"', "> D a", "> TA 1 g", "> TA x")
+    play('> D "a"', "> D a", "> TA 1 g", "> TA x", "> SR 1 g", "> SR x", "> SR ")
     # Rows 2, 3, 1 and 2.
     play("> Q", "> S 1", faulty("Q"), END, "> ")
     # S waits still.
@@ -427,7 +428,7 @@ def order_8_own_rules():
 
 
 def waits():
-    part("Waits: S, T and Z each granted by the second sample, and each out of patience; "
+    part("Waits: S, T, Z and SR each granted by the second sample, and each out of patience; "
          "the sample before the command does not count.")
     for name in WAITING:
         power_on()
@@ -614,11 +615,11 @@ def refusal_2():
 
 ANSWER_SIZES = [
     ("DW", 6), ("TAC", 7),
-    ("SI", 18), ("TA", 19), ("TI", 19),
-    ("I4", 16), ("@", 16), ("I0", 231), ("I1", 24), ("I2", 9),
+    ("SI", 18), ("SR", 18), ("TA", 19), ("TI", 19),
+    ("I4", 16), ("@", 16), ("I0", 244), ("I1", 24), ("I2", 9),
     ("Q", 4), ("S 1", 4),
     ("Z", 5), ("ZI", 6),
-    ("D", 5),
+    ("D", 5), ("SR x", 5),
 ]
 
 
@@ -781,6 +782,204 @@ def bench_profiles():
     power_on(small(c=1_000_000, unit="GN", d=5, k=2))
 
 
+# ---- Document 02, No. 1: send on change
+
+
+def sr_identification():
+    part("SR: its identification is S, always. A wrong parameter is S L; "
+         "while a command waits, S I goes before it.")
+    power_on()
+    watch("> SR x")
+    watch("> T", "> SR", "> SR 1 g", "> SR x", "> SR ", "> @")
+    # Names that are none.
+    play("> SRX", "> sr", "> SR1", "> RS", "> SRU")
+
+
+def sr_waits():
+    part("SR waits as S, also with no sample; it stays off if the answer is I, + or -.")
+    # Out of patience.
+    power_on()
+    watch("> SR", "u 1", "u 2", "u 3", "s 100000000")
+    # + and -, at once and at the end of a wait.
+    power_on()
+    watch("s 220000001", "> SR", "s 0")
+    watch("s -1000001", "> SR", "s 0")
+    watch("u 0", "> SR", "s 220000001", "s 0")
+    # Granted by the second sample, with a set threshold.
+    power_on()
+    watch("> SR 10 g", "u 5", "s 7", "s 10000006", "s 10000007")
+
+
+def sr_ends():
+    part("SR that reaches order 8 ends a SIR and an older SR, also if it then times out or is out "
+         "of range; S, SI and SIR end it.")
+    # A SIR, by a wait that times out, by + and by a weight.
+    power_on()
+    watch("u 0", "> SIR", "> SR", "u 1", "u 2", "u 3", "u 90000", "s 90000")
+    watch("> SIR", "s 220000001", "> SR", "s 90000")
+    watch("> SIR", "> SR", "s 90000", "s 0")
+    # An older SR; the new one keeps nothing of it.
+    power_on()
+    watch("s 0", "> SR", "u 0", "> SR 1 g", "u 1", "u 2", "u 3", "u 90000", "s 90000")
+    watch("> SR 1 g", "u 5000000", "s 300000000", "> SR", "s 7", "> SR 1 g", "u 5000000", "s 7",
+          "> SR")
+    # S, which ends it also when it waits; SI and SIR.
+    power_on()
+    watch("s 0", "> SR", "> S", "s 90000", "> SR", "u 0", "> S", "u 1", "u 2", "u 3", "s 0")
+    watch("> SR", "> SI", "s 90000", "> SR", "> SIR", "u 0", "s 0", "> SI")
+
+
+def sr_goes_on():
+    part("What fails before order 8 ends no SR and no SIR: busy, EL, L, ES, ET, refusal 3.")
+    power_on()
+    watch("s 0", "> SR", "u 1", "> T", "> SI", "> SR", "> S", "> SIR")
+    watch("s 3000", "> SI 1", "> SR x", "> S ", "> SIR 1", "> SRX", faulty("S"), good("I\r\n"))
+    watch("s 6000")
+    # The other commands leave it.
+    for name in NAMES:
+        if name not in ("S", "SI", "SIR", "@", "SR"):
+            watch("> " + name)
+    # A SIR, and wrong parameters.
+    power_on()
+    watch("s 0", "> SIR", "> SR 0 g", "u 1")
+    # The LF of SR in a room of 17, and in one of 18.
+    watch("s 2", "room 17", "> SR", "room 18", LF, "room 256")
+
+
+def sr_reset():
+    part("A reset drops a waiting SR unanswered and ends a running one; a power-on too.")
+    power_on()
+    watch("> SR 1 g", "> @", "s 0", "s 90000")
+    watch("> SR", "> @", "s 0", "s 90000")
+    watch("> SR", "on", "s 0", "s 90000")
+
+
+def sr_last_net():
+    part("The last stable net sent is the exact one; no zeroing and no taring moves it, "
+         "and nothing is sent at a command.")
+    power_on()
+    watch("s 10000000", "> SR", "> T", "s 10000000", "s 10000000")
+    # Z, ZI, TI, TA and TAC.
+    power_on()
+    watch("s 9", "> SR", "s 2000", "> Z", "> ZI", "> TI", "> TA 1 g", "> TAC", "> TA 1 g")
+    watch("s 2000", "s 2000", "> TAC", "s 2000")
+    # Not the printed number: 49 micrograms count.
+    power_on()
+    watch("s 49", "> SR", "s 3048", "u 3048", "s 3049")
+    # A typed tare counts to the microgram.
+    power_on()
+    watch("s 0", "> SR", "> TA 0.002999 g", "s 0", "> TA 0.003 g", "s 0")
+
+
+def sr_owed():
+    part("After the one S D nothing is sent until a stable sample, which is sent even if net "
+         "came back; no wait ends meanwhile.")
+    power_on()
+    watch("s 0", "> SR", "u 5000", "u 0", "u 90000", "s 0", "s 2999", "s 3000")
+    watch("u 0", "u 1", "u 2", "u 3", "u 4", "s 5")
+
+
+def sr_out_of_range():
+    part("Out of range: one + or - for the whole excursion; a silent sample can be back in range.")
+    power_on()
+    watch("s 0", "> SR", "u 5000", "s 220000001", "u -1000001", "u 10", "s 10")
+    # Each excursion anew, from either side, by stable and unstable samples.
+    watch("u 220000001", "s 220000001", "u 10", "s -1000001", "u -1000001", "s 10")
+    # At the limits it is in range.
+    watch("s 220000000", "s 220000001", "s -1000000", "s -1000001", "s 2147483647", "s -2147483648")
+    # Back in range the last net still counts.
+    power_on()
+    watch("s 0", "> SR", "s 220000001", "s 2999", "s -1000001", "u 2999", "s 3000")
+
+
+def sr_passed_over():
+    part("A sample that finds a command waiting gives only that command's answer, "
+         "and moves nothing of SR.")
+    power_on()
+    watch("s 0", "> SR", "u 220000001", "> T", "u 0", "s 220000001", "s 220000001")
+    power_on()
+    watch("s 0", "> SR", "u 1", "> T", "u 220000001", "u 220000001", "u 220000001", "u 220000001")
+    # What is owed waits for a sample that finds nothing waiting.
+    power_on()
+    watch("s 0", "> SR", "u 5000", "> Z", "u 90000", "s 70000", "s 70000")
+
+
+def sr_threshold():
+    part("The threshold: the larger of an eighth of the last net and 30 display steps, "
+         "from both sides; it is taken anew from each last net.")
+    power_on()
+    watch("s 24001", "> SR", "s 27001", "s 27002")
+    watch("s 24000", "> SR", "s 26999", "s 27000")
+    watch("s 23993", "> SR", "s 26992", "s 26993")
+    watch("s -800000", "> SR", "s -900000", "s -1000000")
+    watch("s -800000", "> SR", "u -700001", "u -700000")
+    watch("s 8000000", "> SR", "s 8999999", "s 9000000", "s 10124999", "s 10125000")
+    watch("s 8859376", "s 8859375")
+    # 30 steps that are no whole micrograms, and steps of five.
+    power_on(profile(unit="oz", d=5))
+    watch("s 0", "> SR", "s 8504", "s 8505")
+    power_on(profile(k=5))
+    watch("s 0", "> SR", "s -14999", "s 14999", "s 15000")
+    # A step of a microgram, and one so large that only an excursion is sent.
+    power_on(small(d=6))
+    watch("s 0", "> SR", "s 29", "s 30", "s 1000", "s 876", "s 875")
+    power_on(profile(unit="oz", d=0, k=1))
+    watch("s 0", "> SR", "s 220000000", "s 220000001")
+
+
+def sr_parameter():
+    part("SR with a parameter, which is read as TA reads its number: 1 microgram to C.")
+    power_on()
+    watch("> SR ", "> SR 1", "> SR 1 G", "> SR 1. g", "> SR  1 g", "> SR 0 g", "> SR 220.000001 g")
+    play("> SR 1 g ", "> SR 1  g", "> SR 1g", "> SR 1 mg", "> SR -1 g", "> SR .5 g", "> SR 1.2.3 g")
+    play("> SR 0.0000001 g", "> SR 00000000001 g", "> SR 0.000000 g", "> SR g", "> SR 9999999999 g")
+    watch("> SR 220 g", "> @", "> SR 0.000001 g", "> @", "> SR 000000.001 g", "> @")
+    # Sent by it alone, however small or large.
+    watch("s 800000", "> SR 0.000001 g", "s 800000", "s 800001", "u 800001", "u 800000", "s 800001")
+    watch("s -1", "> SR 220 g", "s 219999998", "s 219999999", "s 0", "s -1")
+    # Rounded to the microgram, half of one upwards.
+    power_on(profile(c=99_999_999, u=0, unit="mg", d=3))
+    watch("> SR 0.0004 mg", "> SR 0.000499 mg", "> SR 0.0005 mg", "> @", "> SR 1.0015 mg", "> @")
+    watch("> SR 99999.9995 mg", "> SR 100000 mg", "> SR 99999.9994 mg", "> @")
+
+
+def sr_refusal_2():
+    part("Refusal 2: SR's last net outside -(U+C)..C, and a set threshold above C, "
+         "of one that runs and of one that waits. One that is off does not count.")
+    # The last net at C, and above it.
+    power_on()
+    play("s 5000", "> SR", small(c=5000), "> DW", small(c=4999), "> DW", "s 1")
+    play(PROFILE_A, LF)
+    # The last net at -(U+C), and below it.
+    power_on()
+    play("s 5000", "> T", "s -1000", "> SR")
+    play(small(c=5000, u=1000), "> DW", small(c=5000, u=999), "> DW", "s 1")
+    # A set threshold at C and above it, running and waiting.
+    power_on()
+    play("s 0", "> SR 0.005 g", small(c=5000), "> DW", small(c=4999), "> DW", "s 1")
+    power_on()
+    play("> SR 0.005 g", small(c=5000), "> DW", small(c=4999), "> DW", "s 1", PROFILE_A, "s 5000")
+    # Off.
+    play("> @", small(c=4999), "> DW", PROFILE_A)
+
+
+def sr_rooms():
+    part("Refusal 3 while SR runs: the sample that is sent is not taken and moves nothing of SR; "
+         "a silent one needs no room.")
+    power_on()
+    watch("s 0", "> SR", "room 17", "s 3000", "u 3000", "room 0", "u 2999")
+    watch("room 4", "s 220000001", "room 5", "s 220000001", "room 0", "s 220000001", "u 0")
+    watch("room 17", "u 3000", "room 18", "u 3000", "room 17", "u 90000", "s 0", "room 18", "s 0")
+    # The sample that ends a wait of SR.
+    watch("u 0", "> SR", "room 17", "s 5", "room 18", "s 5", "room 256")
+
+
+def sr_manual():
+    part("What the manual 003 prints for SR.")
+    power_on(profile(d=2))
+    watch("s 100000000", "> SR 10.00 g", "u 115230000", "s 200000000")
+
+
 def conversation():
     part("Document 01's conversation.")
     power_on()
@@ -843,7 +1042,7 @@ def comments_and_last_line():
 
 
 def head():
-    play("# Plays every rule of document 01 once. "
+    play("# Plays every rule of document 01 once, and document 02's No. 1. "
          "Its stdout is what the independent implementation prints for it.")
     play("# Profile A stands at the start: C 220 g, U 1 g, R 4.4 g, W 3, g, 4 decimals, step 1, "
          "I4 VA-0001, the other texts empty.")
@@ -894,6 +1093,21 @@ SCRIPT = [
     line_on_its_way,
     refused_takes_nothing,
     manual,
+    # Send on change.
+    sr_identification,
+    sr_waits,
+    sr_ends,
+    sr_goes_on,
+    sr_reset,
+    sr_last_net,
+    sr_owed,
+    sr_out_of_range,
+    sr_passed_over,
+    sr_threshold,
+    sr_parameter,
+    sr_refusal_2,
+    sr_rooms,
+    sr_manual,
     # The profile.
     text_lengths,
     text_bytes,

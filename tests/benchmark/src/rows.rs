@@ -40,8 +40,8 @@ pub struct Row {
     pub name: String,
     /// How many bytes, samples or lines a count of 1 adds.
     pub units: usize,
-    /// A power-on goes with each count, and its cost is taken off.
-    pub less_power_on: bool,
+    /// What goes with each count and is taken off: the name of the row that measures it.
+    pub less: Option<&'static str>,
     pub input: Box<dyn Fn(usize) -> Input>,
 }
 
@@ -65,7 +65,7 @@ pub fn run(side: Side, input: &Input) -> (u64, i64) {
 }
 
 fn row(name: &str, units: usize, input: impl Fn(usize) -> Input + 'static) -> Row {
-    Row { name: name.to_string(), units, less_power_on: false, input: Box::new(input) }
+    Row { name: name.to_string(), units, less: None, input: Box::new(input) }
 }
 
 fn script(fill: impl Fn(&mut Script)) -> Script {
@@ -92,27 +92,25 @@ fn rewrites(name: &str, all: Vec<Vec<u8>>) -> Row {
     row(name, all.len(), move |count| Input::Rewritten(lines(&all).repeat(count)))
 }
 
-fn samples(name: &str, before: &'static [u8]) -> Row {
+fn samples(name: &str, before: &'static [u8], fill: fn(&mut Script, usize)) -> Row {
     row(name, 100, move |count| {
         let mut script = repeated(0, &Script::default());
         script.line(before);
-        for i in 0..100 * count as i32 {
-            script.sample(14_256_050 + i % 1000 * 37, i % 4 != 0);
-        }
+        fill(&mut script, 100 * count);
         Input::Calls(profile_a(), script)
     })
 }
 
-/// Bytes that end no line, up to a power-on.
-fn inner_bytes(name: &str, profile: Vec<u8>) -> Row {
+/// Bytes that end no line, after what another row measures.
+fn inner_bytes(name: &str, profile: Vec<u8>, less: &'static str, before: fn(&mut Script)) -> Row {
     let body = script(|script| {
-        script.power_on();
+        before(script);
         for _ in 0..60 {
             script.byte(b'x');
         }
     });
     let input = move |count| Input::Calls(profile.clone(), repeated(count, &body));
-    Row { less_power_on: true, ..row(name, 60, input) }
+    Row { less: Some(less), ..row(name, 60, input) }
 }
 
 /// The first three are the rows whose ratio is judged; their speed and growth are measured too, and those of the fourth.
@@ -124,8 +122,10 @@ pub fn rows() -> Vec<Row> {
         reads("lines read, all forms", mixed_lines()),
         rewrites("lines read and written again", mixed_lines()),
         calls(POWER_ON, 1, script(Script::power_on)),
-        inner_bytes("byte that ends no line", profile_a()),
-        inner_bytes("the same, texts of 40 and 20 characters", profile_with_texts()),
+        inner_bytes("byte that ends no line", profile_a(), POWER_ON, Script::power_on),
+        inner_bytes("the same, texts of 40 and 20 characters", profile_with_texts(), POWER_ON, Script::power_on),
+        calls(SR_STARTED, 1, script(Script::sr_started)),
+        inner_bytes("byte that ends no line, SR runs", profile_a(), SR_STARTED, Script::sr_started),
         line("S"),
         line("SI"),
         line("T"),
@@ -134,11 +134,15 @@ pub fn rows() -> Vec<Row> {
         line("TA 100.00 g"),
         line("TAC"),
         line("D \"pouch 12\""),
+        line("SR"),
+        line("SR 10.00 g"),
         line("I4"),
         line("I0"),
         line("Q"),
-        samples("sample, idle", b""),
-        samples("sample, repetition", b"SIR"),
+        samples("sample, idle", b"", Script::close_samples),
+        samples("sample, repetition", b"SIR", Script::close_samples),
+        samples("sample, SR runs and does not send it", b"SR", Script::close_samples),
+        samples("sample, SR runs and sends it", b"SR", Script::changing_samples),
         reads("read: weight", weight_lines()),
         reads("read: status", status_lines()),
         reads("read: text", text_lines()),
@@ -149,6 +153,7 @@ pub fn rows() -> Vec<Row> {
 }
 
 pub const POWER_ON: &str = "power-on";
+pub const SR_STARTED: &str = "power-on, sample and line `SR`";
 
 /// How many rows have their speed and growth measured.
 pub const TIMED: usize = 4;

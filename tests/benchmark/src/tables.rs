@@ -1,7 +1,7 @@
 //! The tables, in Markdown.
 
 use benchmark::image::FEW;
-use benchmark::rows::{rows, run, Input, Row, Side, POWER_ON, SIDES, SMALL, TIMED};
+use benchmark::rows::{rows, run, Input, Side, SIDES, SMALL, TIMED};
 use std::process::Command;
 use std::time::Instant;
 
@@ -108,20 +108,19 @@ fn counted<const N: usize>(path: &str) -> Vec<Counted<N>> {
     (0..rows().len()).map(|row| [at(2 * row), at(2 * row + 1)]).collect()
 }
 
-/// The instructions of a unit: what the larger input adds.
-fn cost<const N: usize>(row: &Row, [small, large]: &Counted<N>, few: usize, power_on: Each<N>) -> Each<N> {
-    std::array::from_fn(|side| {
-        let body = (large[side] - small[side]) / (9 * few) as f64;
-        (body - if row.less_power_on { power_on[side] } else { 0.0 }) / row.units as f64
-    })
+/// The instructions of a count of 1: what the larger input adds.
+fn cost<const N: usize>([small, large]: &Counted<N>, few: usize) -> Each<N> {
+    std::array::from_fn(|side| (large[side] - small[side]) / (9 * few) as f64)
 }
 
 /// The name and the instructions of each row, where `few` is the small count.
 fn costs<const N: usize>(counted: &[Counted<N>], few: usize) -> Vec<(String, Each<N>)> {
     let rows = rows();
     let all = || rows.iter().zip(counted);
-    let power_on = all().find(|(row, _)| row.name == POWER_ON).map_or([0.0; N], |(row, counts)| cost(row, counts, few, [0.0; N]));
-    all().map(|(row, counts)| (row.name.clone(), cost(row, counts, few, power_on))).collect()
+    let named = |name| all().find(|(row, _)| row.name == name).map_or([0.0; N], |(_, counts)| cost(counts, few));
+    let unit =
+        |units: usize, whole: Each<N>, less: Each<N>| std::array::from_fn(|side| (whole[side] - less[side]) / units as f64);
+    all().map(|(row, counts)| (row.name.clone(), unit(row.units, cost(counts, few), row.less.map_or([0.0; N], named)))).collect()
 }
 
 fn instructions(counted: &[Counted]) {

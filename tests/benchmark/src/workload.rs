@@ -93,6 +93,27 @@ impl Script {
         self.record(feed::POWER_ON, false, 256, [0; 4]);
     }
 
+    /// A power-on and a sample, and SR runs.
+    pub fn sr_started(&mut self) {
+        self.power_on();
+        self.sample(14_256_050, true);
+        self.line(b"SR");
+    }
+
+    /// Samples that lie close together, one in four unstable.
+    pub fn close_samples(&mut self, count: usize) {
+        for i in 0..count as i32 {
+            self.sample(14_256_050 + i % 1000 * 37, i % 4 != 0);
+        }
+    }
+
+    /// Stable samples, each of which differs from the one before by more than an eighth of it.
+    pub fn changing_samples(&mut self, count: usize) {
+        for i in 0..count as i32 {
+            self.sample(19_256_050 - i % 2 * 5_000_000 + i % 1000 * 37, true);
+        }
+    }
+
     pub fn profile(&mut self, place: u32) {
         self.record(feed::PROFILE, false, 0, place.to_le_bytes());
     }
@@ -122,11 +143,11 @@ pub fn repeated(count: usize, body: &Script) -> Script {
     script
 }
 
-/// Bytes of every command and of the lines that are refused.
+/// Bytes of every command and of the lines that are refused. SIR and SR, which go on, have rows of their own.
 pub fn mixed_bytes() -> Script {
     let mut script = Script::default();
     for command in COMMANDS {
-        if command.name() != b"SIR" {
+        if !matches!(command.name(), b"SIR" | b"SR") {
             script.line(command.name());
         }
     }
@@ -141,15 +162,10 @@ pub fn mixed_bytes() -> Script {
 
 /// Samples while nothing is asked for, and as many while a repetition runs.
 pub fn mixed_samples(count: usize) -> Script {
-    let loads = |script: &mut Script| {
-        for i in 0..count as i32 {
-            script.sample(14_256_050 + i % 1000 * 37, i % 4 != 0);
-        }
-    };
     let mut script = repeated(0, &Script::default());
-    loads(&mut script);
+    script.close_samples(count);
     script.line(b"SIR");
-    loads(&mut script);
+    script.close_samples(count);
     script
 }
 
@@ -200,14 +216,19 @@ fn any_number(rng: &mut Rng) -> Vec<u8> {
     }
 }
 
+fn any_name(rng: &mut Rng) -> &'static [u8] {
+    COMMANDS[rng.below(COMMANDS.len() as u64) as usize].name()
+}
+
 fn any_command(rng: &mut Rng) -> Vec<u8> {
-    let name = COMMANDS[rng.below(18) as usize].name();
+    let name = any_name(rng);
     match rng.below(20) {
         0 => [name, b" "].concat(),
         1 => [name, b"X"].concat(),
         2 => (0..rng.below(70)).map(|_| rng.between(0, 255) as u8).collect(),
         3 => vec![b'x'; rng.between(62, 67) as usize],
-        4..=7 => [&b"TA "[..], &any_number(rng), b" ", rng.pick(&UNITS)].concat(),
+        4..=6 => [&b"TA "[..], &any_number(rng), b" ", rng.pick(&UNITS)].concat(),
+        7 => [&b"SR "[..], &any_number(rng), b" ", rng.pick(&UNITS)].concat(),
         8..=9 => [b"D \"", &any_text(rng, 22)[..], b"\""].concat(),
         _ => name.to_vec(),
     }
@@ -222,7 +243,7 @@ fn any_load(rng: &mut Rng) -> i32 {
     }
 }
 
-/// A random history: every command, faults, short buffers, waits, repetition, weights in all units. `profiles` is how many there are.
+/// A random history: every command, faults, short buffers, waits, repetition, send on change, weights in all units. `profiles` is how many there are.
 pub fn any_history(rng: &mut Rng, profiles: usize, calls: usize) -> Script {
     let mut script = Script::default();
     script.power_on();
@@ -279,7 +300,9 @@ pub fn weight_lines() -> Vec<Vec<u8>> {
 }
 
 pub fn status_lines() -> Vec<Vec<u8>> {
-    ended(&["S +", "S -", "Z A", "ZI S", "ZI D", "Z +", "T -", "TI +", "TAC A", "D A", "DW A", "D L", "TA L", "S I", "I4 I"])
+    ended(&[
+        "S +", "S -", "Z A", "ZI S", "ZI D", "Z +", "T -", "TI +", "TAC A", "D A", "DW A", "D L", "TA L", "S L", "S I", "I4 I",
+    ])
 }
 
 pub fn text_lines() -> Vec<Vec<u8>> {
@@ -288,7 +311,7 @@ pub fn text_lines() -> Vec<Vec<u8>> {
 }
 
 pub fn listed_lines() -> Vec<Vec<u8>> {
-    ended(&["I0 B 0 \"I0\"", "I0 B 0 \"SIR\"", "I0 B 0 \"@\"", "I0 B 1 \"TAC\"", "I0 A 1 \"TI\""])
+    ended(&["I0 B 0 \"I0\"", "I0 B 0 \"SIR\"", "I0 B 0 \"@\"", "I0 B 1 \"SR\"", "I0 B 1 \"TAC\"", "I0 A 1 \"TI\""])
 }
 
 pub fn error_lines() -> Vec<Vec<u8>> {
@@ -302,6 +325,7 @@ pub fn refused_lines() -> Vec<Vec<u8>> {
         "s S    14.2561 g",
         "S S   -0.0000 g",
         "SI I",
+        "SR L",
         "@ I",
         "Q A",
         "",
@@ -358,6 +382,6 @@ fn any_weight_line(rng: &mut Rng) -> Vec<u8> {
 }
 
 fn any_status_line(rng: &mut Rng) -> Vec<u8> {
-    let name = COMMANDS[rng.below(18) as usize].name();
+    let name = any_name(rng);
     [name, b" ", rng.pick(&[&b"A"[..], b"B", b"S", b"D", b"I", b"L", b"+", b"-"]), b"\r\n"].concat()
 }

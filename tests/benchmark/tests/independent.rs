@@ -2,10 +2,16 @@
 
 use benchmark::feed::{call, profile_in, Implementation, Outcome, CALL};
 use benchmark::sides::{Fast, Independent};
-use benchmark::workload::{any_history, any_lines, any_profiles, Rng};
+use benchmark::workload::{any_history, any_lines, any_profiles, profile, profile_a, Rng, Script};
+use independent::module::Module;
+use independent::random;
+use independent::replay::{Event, Replay};
+use independent::tally::Call;
+use independent::weight::UNITS;
 
 const PROFILES: usize = 64;
 const CALLS: usize = 200_000;
+const SCRIPTS: usize = 500;
 const LINES: usize = 50_000;
 
 /// The outcome of each record, with the buffer.
@@ -44,6 +50,51 @@ fn histories_are_the_same() {
         seen[fast.0.map_or(0, |outcome| outcome.refusal.into())] += 1;
     }
     assert!(seen.iter().all(|&calls| calls > 100), "every refusal is met: {seen:?}");
+}
+
+/// The rows of a running SR measure what they say.
+#[test]
+fn sr_sends_none_or_each_of_the_samples() {
+    for (fill, count) in [(Script::close_samples as fn(&mut Script, usize), 0), (Script::changing_samples, 18)] {
+        let mut script = Script::default();
+        script.sr_started();
+        let before = script.len();
+        fill(&mut script, 2_000);
+        let profiles = profile_a();
+        for (outcome, _) in outcomes::<Fast>(&profiles, &script.0).skip(before) {
+            assert_eq!(outcome, Some(Outcome { refusal: 0, count }));
+        }
+    }
+}
+
+/// The independent implementation's own histories too, which are aimed at the edges of zero, tare and count, and of SR's threshold.
+#[test]
+fn aimed_histories_are_the_same() {
+    let mut rng = random::Rng::new(9);
+    for _ in 0..SCRIPTS {
+        let (mut replay, mut state) = (Replay::new(Module::default()), Fast::start());
+        for line in random::script(&mut rng) {
+            let room = replay.room;
+            replay.line(&line, &mut vec![], &mut |event| assert_same(event, room, &mut state));
+        }
+    }
+}
+
+fn assert_same(event: &Event, room: usize, state: &mut <Fast as Implementation>::State) {
+    let from = event.profile;
+    let unit = UNITS.iter().position(|unit| *unit == from.scale.unit).expect("a unit") as u8;
+    let limits = [from.capacity, from.margin, from.zeroing, from.patience];
+    let texts = [0, 1, 2, 3].map(|at| &from.texts[at][..]);
+    let profile = Fast::profile(&profile(limits, [unit, from.scale.decimals, from.scale.step], texts), 0);
+    let mut out = [0xA5; 1024];
+    let lent = &mut out[..room];
+    let outcome = match event.call {
+        None => Fast::power_on(&profile, state, lent),
+        Some(Call::Byte { byte, good }) => Fast::byte(&profile, state, byte, !good, lent),
+        Some(Call::Sample { load, stable }) => Fast::sample(&profile, state, load, stable, lent),
+    };
+    assert_eq!((outcome.refusal, &out[..outcome.count]), (event.refusal, event.answer), "{:?} of {from:?}", event.call);
+    assert!(out[outcome.count..].iter().all(|&byte| byte == 0xA5), "nothing is written past the answer");
 }
 
 /// What is read of a line, and that it is written again, in a buffer that is long enough alone.

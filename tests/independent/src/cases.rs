@@ -1,4 +1,5 @@
-//! The bench cases of document 01, the worked examples of the manuals and some states, as scripts with what they print.
+//! The bench cases of document 01, the corners of document 02's requests, the worked examples of the manuals and some states, as
+//! scripts with what they print.
 
 pub struct Case {
     pub name: &'static str,
@@ -29,10 +30,9 @@ fn refused(name: &'static str, profile: &str) -> Case {
 }
 
 pub fn all() -> Vec<Case> {
-    [printing(), ranges(), zeroing_and_taring(), waiting(), lines(), profiles(), states(), manuals()]
-        .into_iter()
-        .flatten()
-        .collect()
+    let base = [printing(), ranges(), zeroing_and_taring(), waiting(), lines(), profiles(), states(), manuals()];
+    let on_change = [sr_lines(), sr_starts_and_ends(), sr_memory(), sr_passed_over(), sr_thresholds(), sr_refusals()];
+    base.into_iter().chain(on_change).flatten().collect()
 }
 
 fn printing() -> Vec<Case> {
@@ -226,6 +226,382 @@ fn states() -> Vec<Case> {
     ]
 }
 
+// Document 02, No. 1: send on change.
+
+/// Identification S, always; the parameter is read as TA reads its number.
+fn sr_lines() -> Vec<Case> {
+    let milligrams = "profile 99999999 0 4400000 3 mg 3 1";
+    let waits = |set: &str| format!("state zero 0 tare 0 sample none waits SR 0 {set} repeats no shows weight line 0");
+    vec![
+        on_a("SR x", &["> SR x"], &["S L"]),
+        on_a("SR while T waits", &["> T", "> SR", "> SR 1 g", "> SR x", "> SR "], &["S I", "S I", "S I", "S I"]),
+        on_a("SRX and others that are no name", &["> SRX", "> sr", "> SR1", "> RS", "> SRR"], &["ES", "ES", "ES", "ES", "ES"]),
+        on_a(
+            "parameters refused",
+            &["> SR ", "> SR 1", "> SR 1 G", "> SR 1. g", "> SR  1 g", "> SR 0 g", "> SR 220.000001 g", "state"],
+            &[
+                "S L",
+                "S L",
+                "S L",
+                "S L",
+                "S L",
+                "S L",
+                "S L",
+                "state zero 0 tare 0 sample none waits none repeats no shows weight line 0",
+            ],
+        ),
+        on_a(
+            "more parameters refused",
+            &["> SR 1 g ", "> SR 1  g", "> SR 1 mg", "> SR -1 g", "> SR .1 g", "> SR 0.0000001 g", "> SR 0.000000 g", "> SR g"],
+            &["S L", "S L", "S L", "S L", "S L", "S L", "S L", "S L"],
+        ),
+        on_a(
+            "parameters taken",
+            &[
+                "> SR 220 g",
+                "state",
+                "> @",
+                "> SR 0.000001 g",
+                "state",
+                "> @",
+                "> SR 000000.001 g",
+                "state",
+                "> @",
+                "> SR",
+                "state",
+            ],
+            &[&waits("220000000"), ON, &waits("1"), ON, &waits("1000"), ON, &waits("-")],
+        ),
+        on_profile(
+            "half a microgram is rounded up",
+            milligrams,
+            &["> SR 0.0004 mg", "> SR 0.000499 mg", "> SR 0.0005 mg", "state", "> @", "> SR 1.0015 mg", "state"],
+            &["S L", "S L", &waits("1"), ON, &waits("1002")],
+        ),
+        on_profile(
+            "the capacity after rounding",
+            milligrams,
+            &["> SR 99999.9995 mg", "> SR 100000 mg", "> SR 99999.9994 mg", "state"],
+            &["S L", "S L", &waits("99999999")],
+        ),
+        on_a("SR is received like others", &["b 53", "f 52", "b 0D 0A", "> SR\t", "> SR \t"], &["ET", "ES", "ES"]),
+    ]
+}
+
+/// Order 8 alone ends and starts.
+fn sr_starts_and_ends() -> Vec<Case> {
+    vec![
+        on_a(
+            "SR waits as S, and stays off after I",
+            &["> SR", "u 1", "u 2", "state", "u 3", "s 100000000", "state"],
+            &[
+                "state zero 0 tare 0 sample u 2 waits SR 2 - repeats no shows weight line 0",
+                "S I",
+                "state zero 0 tare 0 sample s 100000000 waits none repeats no shows weight line 0",
+            ],
+        ),
+        on_a("SR stays off after +", &["s 220000001", "> SR", "s 0", "s 100000000"], &["S +"]),
+        on_a("SR stays off after -", &["s -1000001", "> SR", "s 0", "s 100000000"], &["S -"]),
+        on_a("SR stays off after + at a wait's end", &["> SR", "u 1", "s 220000001", "s 0", "s 100000000"], &["S +"]),
+        on_a(
+            "SR starts at a wait's end",
+            &["> SR 10 g", "u 5", "s 7", "state", "s 10000006", "s 10000007"],
+            &[
+                "S S     0.0000 g",
+                "state zero 0 tare 0 sample s 7 waits none repeats SR 7 10000000 shows weight line 0",
+                "S S    10.0000 g",
+            ],
+        ),
+        on_a(
+            "what fails before order 8 ends nothing",
+            &["s 0", "> SR", "u 1", "> T", "> SI", "> SR", "> S", "s 3000", "> SI 1", "> SR x", "s 6000"],
+            &["S S     0.0000 g", "S I", "S I", "S I", "T S     0.0030 g", "EL", "S L", "S S     0.0030 g"],
+        ),
+        on_a("a wrong SR leaves SIR", &["s 0", "> SIR", "> SR 0 g", "u 1"], &["S S     0.0000 g", "S L", "S D     0.0000 g"]),
+        on_a(
+            "the LF of SR in rooms of 17 and 18",
+            &["s 0", "> SIR", "room 17", "> SR", "state", "room 18", "b 0A", "state"],
+            &[
+                "S S     0.0000 g",
+                "refused 3",
+                "state zero 0 tare 0 sample s 0 waits none repeats SIR shows weight line 2 cr",
+                "S S     0.0000 g",
+                "state zero 0 tare 0 sample s 0 waits none repeats SR 0 - shows weight line 0",
+            ],
+        ),
+        on_a(
+            "SR ends a SIR, also if it then times out",
+            &["u 0", "> SIR", "> SR", "state", "u 1", "u 2", "u 3", "u 90000", "s 90000"],
+            &["S D     0.0000 g", "state zero 0 tare 0 sample u 0 waits SR 0 - repeats no shows weight line 0", "S I"],
+        ),
+        on_a(
+            "SR ends an older SR, also if it then times out",
+            &["s 0", "> SR", "u 0", "> SR 1 g", "state", "u 1", "u 2", "u 3", "u 90000", "s 90000"],
+            &["S S     0.0000 g", "state zero 0 tare 0 sample u 0 waits SR 0 1000000 repeats no shows weight line 0", "S I"],
+        ),
+        on_a(
+            "a new SR keeps nothing of the older one",
+            &["s 0", "> SR 1 g", "u 5000000", "s 300000000", "s 9", "> SR", "state"],
+            &[
+                "S S     0.0000 g",
+                "S D     5.0000 g",
+                "S +",
+                "S S     0.0000 g",
+                "S S     0.0000 g",
+                "state zero 0 tare 0 sample s 9 waits none repeats SR 9 - shows weight line 0",
+            ],
+        ),
+        on_a(
+            "S, SI and SIR end SR",
+            &["s 0", "> SR", "> S", "s 90000", "> SR", "> SI", "s 0", "> SR", "> SIR", "s 90000", "s 90000"],
+            &[
+                "S S     0.0000 g",
+                "S S     0.0000 g",
+                "S S     0.0900 g",
+                "S S     0.0900 g",
+                "S S     0.0000 g",
+                "S S     0.0000 g",
+                "S S     0.0900 g",
+                "S S     0.0900 g",
+            ],
+        ),
+        on_a(
+            "an S that waits has ended SR",
+            &["s 0", "> SR", "u 1", "> S", "u 2", "u 3", "u 4", "s 90000"],
+            &["S S     0.0000 g", "S I"],
+        ),
+        on_a(
+            "@ drops a waiting SR unanswered and ends a running one",
+            &["> SR", "> @", "s 0", "s 90000", "> SR", "> @", "s 0", "state"],
+            &[ON, "S S     0.0900 g", ON, "state zero 0 tare 0 sample s 0 waits none repeats no shows weight line 0"],
+        ),
+        on_profile(
+            "003 SR",
+            "profile 220000000 1000000 4400000 3 g 2 1",
+            &["s 100000000", "> SR 10.00 g", "u 115230000", "s 200000000"],
+            &["S S     100.00 g", "S D     115.23 g", "S S     200.00 g"],
+        ),
+    ]
+}
+
+/// The last stable net sent, what is owed, and excursions.
+fn sr_memory() -> Vec<Case> {
+    let running = |words: &str| format!("state zero 0 tare 0 {words} shows weight line 0");
+    vec![
+        on_a(
+            "T moves no last net",
+            &["s 10000000", "> SR", "> T", "s 10000000", "s 10000000"],
+            &["S S    10.0000 g", "T S    10.0000 g", "S S     0.0000 g"],
+        ),
+        on_a(
+            "Z, ZI, TI, TA and TAC move no last net, and nothing is sent at a command",
+            &["s 9", "> SR", "s 2000", "> Z", "> ZI", "> TI", "> TA 1 g", "state", "> TAC", "> TA", "> TA 1 g", "s 2000"],
+            &[
+                "S S     0.0000 g",
+                "Z A",
+                "ZI S",
+                "TI S     0.0000 g",
+                "TA A     1.0000 g",
+                "state zero 2000 tare 1000000 sample s 2000 waits none repeats SR 9 - shows weight line 0",
+                "TAC A",
+                "TA A     0.0000 g",
+                "TA A     1.0000 g",
+                "S S    -1.0000 g",
+            ],
+        ),
+        on_a(
+            "the exact net is kept, not the printed one",
+            &["s 49", "> SR", "s 3048", "u 3048", "s 3049", "state"],
+            &["S S     0.0000 g", "S S     0.0030 g", &running("sample s 3049 waits none repeats SR 3049 -")],
+        ),
+        on_a(
+            "an S S is owed",
+            &["s 0", "> SR", "u 5000", "state", "u 0", "u 90000", "state", "s 0", "s 2999", "s 3000"],
+            &[
+                "S S     0.0000 g",
+                "S D     0.0050 g",
+                &running("sample u 5000 waits none repeats SR 0 - owed"),
+                &running("sample u 90000 waits none repeats SR 0 - owed"),
+                "S S     0.0000 g",
+                "S S     0.0030 g",
+            ],
+        ),
+        on_a(
+            "no timeout after S D",
+            &["s 0", "> SR", "u 5000", "u 1", "u 2", "u 3", "u 4", "u 5", "s 6", "state"],
+            &["S S     0.0000 g", "S D     0.0050 g", "S S     0.0000 g", &running("sample s 6 waits none repeats SR 6 -")],
+        ),
+        on_a(
+            "one + or - for an excursion",
+            &["s 0", "> SR", "u 5000", "s 220000001", "state", "u -1000001", "u 10", "state", "s 10"],
+            &[
+                "S S     0.0000 g",
+                "S D     0.0050 g",
+                "S +",
+                &running("sample s 220000001 waits none repeats SR 0 - owed out"),
+                &running("sample u 10 waits none repeats SR 0 - owed"),
+                "S S     0.0000 g",
+            ],
+        ),
+        on_a(
+            "a silent sample is back in range",
+            &["s 0", "> SR", "u 220000001", "state", "u 10", "state", "s -1000001", "s -1000000"],
+            &[
+                "S S     0.0000 g",
+                "S +",
+                &running("sample u 220000001 waits none repeats SR 0 - out"),
+                &running("sample u 10 waits none repeats SR 0 -"),
+                "S -",
+                "S S    -1.0000 g",
+            ],
+        ),
+        on_a(
+            "back in range the last net still counts",
+            &["s 0", "> SR", "s 220000001", "s 220000001", "u 2999", "s 300000000", "s 2999", "u -300000000", "s 3000"],
+            &["S S     0.0000 g", "S +", "S +", "S -", "S S     0.0030 g"],
+        ),
+    ]
+}
+
+/// A sample that finds a command waiting gives only that command's answer, and moves nothing of SR.
+fn sr_passed_over() -> Vec<Case> {
+    vec![
+        on_a(
+            "passed over while out of range",
+            &["s 0", "> SR", "u 220000001", "> T", "u 0", "s 220000001", "s 220000001"],
+            &["S S     0.0000 g", "S +", "T +"],
+        ),
+        on_a(
+            "passed over, and sent when nothing waits",
+            &["s 0", "> SR", "u 1", "> T", "u 220000001", "u 220000001", "u 220000001", "state", "u 220000001"],
+            &[
+                "S S     0.0000 g",
+                "T I",
+                "state zero 0 tare 0 sample u 220000001 waits none repeats SR 0 - shows weight line 0",
+                "S +",
+            ],
+        ),
+        on_a(
+            "a waiting Z's samples",
+            &["s 0", "> SR", "u 1", "> Z", "u 90000", "state", "s 70000", "state", "s 90000"],
+            &[
+                "S S     0.0000 g",
+                "state zero 0 tare 0 sample u 90000 waits Z 1 repeats SR 0 - shows weight line 0",
+                "Z A",
+                "state zero 70000 tare 0 sample s 70000 waits none repeats SR 0 - shows weight line 0",
+                "S S     0.0200 g",
+            ],
+        ),
+        on_a(
+            "refused samples move nothing",
+            &["s 0", "> SR", "room 17", "s 3000", "u 3000", "u 2999", "room 4", "s 220000001", "state", "room 5", "s 220000001"],
+            &[
+                "S S     0.0000 g",
+                "refused 3",
+                "refused 3",
+                "refused 3",
+                "state zero 0 tare 0 sample u 2999 waits none repeats SR 0 - shows weight line 0",
+                "S +",
+            ],
+        ),
+    ]
+}
+
+/// Each threshold from both sides; equality fires.
+fn sr_thresholds() -> Vec<Case> {
+    let ounces = "profile 220000000 1000000 4400000 3 oz 5 1";
+    vec![
+        on_a("an eighth above 30 steps", &["s 24001", "> SR", "s 27001", "s 27002"], &["S S     0.0240 g", "S S     0.0270 g"]),
+        on_a("an eighth and 30 steps", &["s 24000", "> SR", "s 26999", "s 27000"], &["S S     0.0240 g", "S S     0.0270 g"]),
+        on_a("an eighth below 30 steps", &["s 23993", "> SR", "s 26992", "s 26993"], &["S S     0.0240 g", "S S     0.0270 g"]),
+        on_a(
+            "a last net below zero",
+            &["s -800000", "> SR", "s -900000", "s -1000000"],
+            &["S S    -0.8000 g", "S S    -0.9000 g"],
+        ),
+        on_a("towards zero", &["s -800000", "> SR", "u -700001", "u -700000"], &["S S    -0.8000 g", "S D    -0.7000 g"]),
+        on_a(
+            "the threshold is taken anew from each new last net",
+            &["s 8000000", "> SR", "s 8999999", "s 9000000", "s 10124999", "s 10125000", "s 8859376", "s 8859375"],
+            &["S S     8.0000 g", "S S     9.0000 g", "S S    10.1250 g", "S S     8.8594 g"],
+        ),
+        on_profile(
+            "30 steps of an ounce",
+            ounces,
+            &["s 0", "> SR", "s 8504", "s 8505"],
+            &["S S    0.00000 oz", "S S    0.00030 oz"],
+        ),
+        on_profile(
+            "30 steps of five",
+            "profile 220000000 1000000 4400000 3 g 4 5",
+            &["s 0", "> SR", "s -14999", "s 14999", "s 15000"],
+            &["S S     0.0000 g", "S S     0.0150 g"],
+        ),
+        on_a(
+            "a set threshold of a microgram",
+            &["s 800000", "> SR 0.000001 g", "s 800000", "s 800001", "u 800001", "u 800000", "s 800001", "s 800001"],
+            &["S S     0.8000 g", "S S     0.8000 g", "S D     0.8000 g", "S S     0.8000 g"],
+        ),
+        on_a(
+            "a set threshold of the capacity",
+            &["s -1", "> SR 220 g", "s 219999998", "s 219999999", "s 0", "s -1"],
+            &["S S     0.0000 g", "S S   220.0000 g", "S S     0.0000 g"],
+        ),
+    ]
+}
+
+/// Refusal 2 at each side of each limit that a changed profile can reach; the rest are constructed states.
+fn sr_refusals() -> Vec<Case> {
+    vec![
+        on_a(
+            "a last net above C",
+            &[
+                "s 5000",
+                "> SR",
+                "profile 5000 0 0 3 g 4 1",
+                "b 53",
+                "profile 4999 0 0 3 g 4 1",
+                "b 53",
+                "s 1",
+                A,
+                "s 5001",
+                "> Q",
+            ],
+            &["S S     0.0050 g", "refused 2", "refused 2", "ES"],
+        ),
+        on_a(
+            "a last net below -(U+C)",
+            &[
+                "s 5000",
+                "> T",
+                "s -1000",
+                "> SR",
+                "profile 5000 1000 0 3 g 4 1",
+                "b 53",
+                "profile 5000 999 0 3 g 4 1",
+                "b 53",
+                "u 0",
+            ],
+            &["T S     0.0050 g", "S S    -0.0060 g", "refused 2", "refused 2"],
+        ),
+        on_a(
+            "a set threshold above C, running",
+            &["s 0", "> SR 0.005 g", "profile 5000 0 0 3 g 4 1", "b 53", "profile 4999 0 0 3 g 4 1", "b 53", "s 1", A, "s 5000"],
+            &["S S     0.0000 g", "refused 2", "refused 2", "S S     0.0050 g"],
+        ),
+        on_a(
+            "a set threshold above C, waiting",
+            &["> SR 0.005 g", "profile 5000 0 0 3 g 4 1", "b 53", "profile 4999 0 0 3 g 4 1", "b 53", "s 1", A, "s 5000"],
+            &["refused 2", "refused 2", "S S     0.0050 g"],
+        ),
+        on_a(
+            "what an SR that is off left behind does not count",
+            &["s 5000", "> SR 0.005 g", "> @", "profile 4999 0 0 3 g 4 1", "> DW", "u 1"],
+            &["S S     0.0050 g", ON, "DW A"],
+        ),
+    ]
+}
+
 fn manuals() -> Vec<Case> {
     let hundredths = "profile 220000000 1000000 4400000 3 g 2 1";
     let thousandths = "profile 220000000 1000000 4400000 3 g 3 1";
@@ -288,6 +664,7 @@ fn manuals() -> Vec<Case> {
                 "I0 B 0 \"@\"",
                 "I0 B 1 \"D\"",
                 "I0 B 1 \"DW\"",
+                "I0 B 1 \"SR\"",
                 "I0 B 1 \"T\"",
                 "I0 B 1 \"TA\"",
                 "I0 B 1 \"TAC\"",
@@ -331,6 +708,14 @@ pub fn captures() -> Vec<(&'static str, &'static str)> {
         ("TI +\r\n", "answer TI +\r\n"),
         ("TA +\r\n", "refused 4\r\n"),
         ("D L\r\n", "answer D L\r\n"),
+        ("S L\r\n", "answer S L\r\n"),
+        ("SR L\r\n", "refused 4\r\n"),
+        ("SR I\r\n", "refused 4\r\n"),
+        ("SI L\r\n", "refused 4\r\n"),
+        ("SR S     1.0000 g\r\n", "refused 4\r\n"),
+        ("I0 B 1 \"SR\"\r\n", "command B 1 SR\r\n"),
+        ("I0 A 1 \"SR\"\r\n", "command A 1 SR\r\n"),
+        ("I0 B 0 \"SR\"\r\n", "refused 4\r\n"),
         ("S I\r\n", "answer S I\r\n"),
         ("I0 I\r\n", "answer I0 I\r\n"),
         ("SI I\r\n", "refused 4\r\n"),

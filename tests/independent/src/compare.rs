@@ -2,6 +2,7 @@
 
 use crate::profile::Profile;
 use crate::replay::Event;
+use crate::sent_on_change::Follower;
 use crate::tally::Tally;
 
 /// The lines of a script without their LF, or the pieces of a capture.
@@ -92,14 +93,17 @@ fn without_runs<T: Clone>(mut items: Vec<T>, run: usize, differs: &mut dyn FnMut
     items
 }
 
-/// Has the tally judge each history: from a granted power-on as long as the profile stays.
+/// Has the tally and the follower of SR judge each history: from a granted power-on as long as the profile stays.
 #[derive(Default)]
 pub struct Judge {
-    tally: Option<(Profile, Tally)>,
+    judges: Option<(Profile, Tally, Follower)>,
     pub calls: usize,
     pub refusals: [usize; 4],
     pub weights: usize,
+    /// What the tally finds wrong.
     pub faults: Vec<String>,
+    /// What the follower of SR finds wrong.
+    pub strays: Vec<String>,
 }
 
 impl Judge {
@@ -108,18 +112,17 @@ impl Judge {
         self.refusals[usize::from(event.refusal)] += 1;
         let Some(call) = event.call else {
             if event.refusal == 0 {
-                self.tally = Some((event.profile.clone(), Tally::new(event.profile)));
+                self.judges = Some((event.profile.clone(), Tally::new(event.profile), Follower::new(event.profile)));
             }
             return;
         };
-        if self.tally.as_ref().is_some_and(|(profile, _)| profile != event.profile) && event.refusal == 0 {
-            self.tally = None;
+        if self.judges.as_ref().is_some_and(|(profile, ..)| profile != event.profile) && event.refusal == 0 {
+            self.judges = None;
         }
-        let Some((_, tally)) = self.tally.as_mut() else { return };
+        let Some((_, tally, follower)) = self.judges.as_mut() else { return };
         self.weights += usize::from(event.answer.len() > 17 && event.answer[0] != b'I');
-        if let Err(fault) = tally.take(call, event.refusal, event.answer) {
-            self.faults.push(fault);
-        }
+        self.faults.extend(tally.take(call, event.refusal, event.answer).err());
+        self.strays.extend(follower.take(call, event.refusal, event.answer).err());
     }
 }
 

@@ -50,6 +50,20 @@ faults! {
     CountNotReset, BusyLineCounted, BusyStartsOver, BusyTakesOver, PowerOnKeepsWait, BusySirStarts, LogicalSirStarts,
     ErrorEndsRepetition, TimeoutEndsRepetition, OverloadEndsRepetition, PowerOnKeepsRepetition, OverloadCutDown,
     WaitingKeepsSample, TimeoutForgetsSample, ResetMarksUnstable, PowerOnKeepsSample,
+    // send on change: which lines start and end it
+    SrUnlisted, SrOwnIdentification, SrNeedsSample, SrAnswersUnstable, SrStartedByOverload, SrStartedByTimeout, SrOutlivesS,
+    SrOutlivesSi, SrOutlivesSir, SrOutlivesSr, SrOutlivesReset, SirOutlivesSr, SirKeptBySr, BusySrEndsOld, WrongSrEndsOld,
+    LogicalSiEndsSr,
+    // send on change: the last net, what is owed, excursions
+    SrRebasedByTaring, SrRebasedByTypedTare, SrRebasedByZeroing, PrintedNetKept, FirstNetForgotten, DynamicNetKept,
+    OwedDroppedWhenBack, OwedWaitsForChange, OwedLostInExcursion, NewSrKeepsOwed, SecondDynamicSent, StableHeldBack,
+    OutOfRangeRepeated, OutOfRangeUnsent, UnstableOutUnsent, OtherSideSentToo, SilentSampleStaysOut, BackInRangeSent,
+    ExcursionEndsSr, WaitingSampleMovesSr, SrSentWhileWaiting, SentThoughRefused,
+    // send on change: the threshold
+    SetThresholdExclusive, EighthExclusive, StepsExclusive, EighthForgotten, StepsForgotten, EighthRoundedDown, StepsRoundedDown,
+    EighthOfPresentNet, ThirtyLastPlaces, ChangeBySize, PrintedChangeCompared, SetThresholdHasLeast, ThresholdFixedAtStart,
+    ThresholdKeptFromOlder, ThresholdOfZeroTaken, ThresholdAboveCapacityTaken, LoneSpaceTaken, LastNetUnjudged,
+    LastNetJudgedByMargin, ThresholdUnjudged, WaitingThresholdUnjudged,
     // refusals
     BytePastAnswerWritten, RefusalWritesBuffer,
     RefusalTwoFirst, RefusalThreeFirst, RoomOffByOne, ShortRoomTakes, ZeroUnjudged, TareUnjudged, CountUnjudged,
@@ -58,5 +72,5 @@ faults! {
     OF_THE_READER:
     ReadLeadingZero, ReadMinusZero, ReadSevenDecimals, ReadBarePoint, ReadNegativeTare, ReadLeftAligned, ReadShortField,
     ReadOtherUnit, ReadLongText, ReadQuote, ReadControl, ReadSiBusy, ReadResetBusy, ReadOtherLevel, ReadBareZeroing, ReadTrailing,
-    ReadLfAlone, ReadUnfinished, ReadWrongSign, ReadAnyVersion, ReadLowerCase,
+    ReadLfAlone, ReadUnfinished, ReadWrongSign, ReadAnyVersion, ReadLowerCase, ReadSrBusy, ReadSrWrong, ReadNoWrongS,
 }

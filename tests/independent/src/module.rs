@@ -1,6 +1,7 @@
 //! The module: power-on, the byte call and the sample call, with their refusals 1, 2 and 3.
 
 use crate::faults::Fault;
+use crate::on_change::{kept_net, least_change, OnChange};
 use crate::profile::{is_text, Profile};
 use crate::weight::{as_printed, typed_micrograms, weight_text, Unit};
 
@@ -8,7 +9,7 @@ const CR: u8 = 13;
 const LF: u8 = 10;
 
 /// The commands in the order in which I0 lists them, each with its level.
-pub const COMMANDS: [(&str, u8); 18] = [
+pub const COMMANDS: [(&str, u8); 19] = [
     ("I0", 0),
     ("I1", 0),
     ("I2", 0),
@@ -23,6 +24,7 @@ pub const COMMANDS: [(&str, u8); 18] = [
     ("@", 0),
     ("D", 1),
     ("DW", 1),
+    ("SR", 1),
     ("T", 1),
     ("TA", 1),
     ("TAC", 1),
@@ -45,11 +47,22 @@ pub struct Sample {
     pub stable: bool,
 }
 
-/// S, T or Z waiting, and the unstable samples that came meanwhile.
+/// S, T, Z or SR waiting, and the unstable samples that came meanwhile.
 #[derive(Clone, Copy, Debug, PartialEq, Eq)]
 pub struct Wait {
     pub name: &'static str,
     pub unstable: u32,
+    /// What the line of a waiting SR sets, in micrograms; none for the others.
+    pub threshold: Option<i64>,
+}
+
+/// What the samples that find no command waiting are sent for. One of three, so that SR cannot run beside SIR.
+#[derive(Clone, Copy, Debug, Default, PartialEq, Eq)]
+pub enum Repetition {
+    #[default]
+    Off,
+    Sir,
+    Sr(OnChange),
 }
 
 #[derive(Clone, Debug, Default, PartialEq, Eq)]
@@ -59,11 +72,30 @@ pub struct State {
     pub tare: i64,
     pub latest: Option<Sample>,
     pub waiting: Option<Wait>,
-    pub repeating: bool,
+    pub repetition: Repetition,
     /// The text that D shows; none when the weight is shown.
     pub shown: Option<Vec<u8>>,
-    /// The count of the last wait; only a planted fault keeps and reads it.
-    pub spent: u32,
+    /// What only planted faults keep and read.
+    pub planted: u32,
+}
+
+impl State {
+    /// The memory of a running SR.
+    pub fn on_change(&self) -> Option<OnChange> {
+        match self.repetition {
+            Repetition::Sr(memory) => Some(memory),
+            _ => None,
+        }
+    }
+}
+
+/// The latest sample as S, SI, SIR and SR see it.
+#[derive(Clone, Copy, Debug, PartialEq, Eq)]
+pub struct Reading {
+    pub net: i128,
+    pub stable: bool,
+    /// + or - where gross is out of range.
+    pub out: Option<char>,
 }
 
 /// The refusal number, 0 for none, and the length of the answer.
@@ -78,6 +110,7 @@ enum Parameters {
     None,
     Show(Vec<u8>),
     Preset(i64),
+    Threshold(i64),
     Wrong,
 }
 
@@ -112,7 +145,7 @@ impl Module {
             Some(Fault::PowerOnKeepsText) => state.shown = given.shown.clone(),
             Some(Fault::PowerOnKeepsLine) => state.line = given.line.clone(),
             Some(Fault::PowerOnKeepsWait) => state.waiting = given.waiting,
-            Some(Fault::PowerOnKeepsRepetition) => state.repeating = given.repeating,
+            Some(Fault::PowerOnKeepsRepetition) => state.repetition = given.repetition,
             Some(Fault::PowerOnKeepsSample) => state.latest = given.latest,
             _ => {}
         }
@@ -149,6 +182,8 @@ impl Module {
                 *state = next;
             } else if self.has(Fault::LineKeptAfterRefusal) {
                 state.line.cr = false;
+            } else if self.has(Fault::SentThoughRefused) {
+                state.repetition = next.repetition;
             }
             return self.refuse(3, state, buffer);
         }
@@ -197,8 +232,22 @@ impl Module {
         let shown_wrong = state.shown.as_ref().is_some_and(|text| !self.can_show(text));
         let counted = state.waiting.is_some_and(|wait| wait.unstable >= profile.patience);
         let out_of_patience = counted && !self.has(Fault::CountUnjudged) && !self.has(Fault::TimeoutLate);
-        let nothing_to_repeat = state.repeating && state.latest.is_none();
-        zero_out || tare_out || line_long || shown_wrong || out_of_patience || nothing_to_repeat
+        let nothing_to_repeat = state.repetition != Repetition::Off && state.latest.is_none();
+        let change_wrong = self.change_refused(profile, state);
+        zero_out || tare_out || line_long || shown_wrong || out_of_patience || nothing_to_repeat || change_wrong
+    }
+
+    /// A last net outside -(U+C)..C, or a set threshold outside 1..C, of an SR that runs or waits.
+    fn change_refused(&self, profile: &Profile, state: &State) -> bool {
+        let capacity = i64::from(profile.capacity);
+        let below = if self.has(Fault::LastNetJudgedByMargin) { 0 } else { capacity };
+        let nets = -(i64::from(profile.margin) + below)..=capacity;
+        let is_wrong = |set: Option<i64>| set.is_some_and(|set| !(1..=capacity).contains(&set));
+        let last_out = |memory: OnChange| !nets.contains(&memory.last) && !self.has(Fault::LastNetUnjudged);
+        let set_out = |memory: OnChange| is_wrong(memory.threshold) && !self.has(Fault::ThresholdUnjudged);
+        let waiting_out =
+            |wait: Wait| wait.name == "SR" && is_wrong(wait.threshold) && !self.has(Fault::WaitingThresholdUnjudged);
+        state.on_change().is_some_and(|memory| last_out(memory) || set_out(memory)) || state.waiting.is_some_and(waiting_out)
     }
 
     fn can_show(&self, text: &[u8]) -> bool {
@@ -298,7 +347,9 @@ impl Module {
         if self.has(Fault::ErrorShowsWeight) {
             state.shown = None;
         }
-        state.repeating &= !self.has(Fault::ErrorEndsRepetition);
+        if self.has(Fault::ErrorEndsRepetition) {
+            state.repetition = Repetition::Off;
+        }
         answer(letters)
     }
 
@@ -322,12 +373,9 @@ impl Module {
         if self.has(Fault::WaitingBeforeLogical) && busy && name != "@" {
             return self.status(name, "I");
         }
-        let takes_parameters = name == "D" || name == "TA";
+        let takes_parameters = matches!(name, "D" | "TA" | "SR");
         if rest.is_some() && !takes_parameters && !self.has(Fault::AnythingAfterName) {
-            if name == "DW" && self.has(Fault::LogicalDwShowsWeight) {
-                state.shown = None;
-            }
-            state.repeating |= name == "SIR" && state.latest.is_some() && self.has(Fault::LogicalSirStarts);
+            self.logical(state, name);
             return self.error(state, "EL");
         }
         if name == "@" && !(busy && self.has(Fault::WaitingBeforeReset)) {
@@ -340,24 +388,47 @@ impl Module {
             return self.status(name, "I");
         }
         if wrong {
-            if name == "D" && self.has(Fault::WrongTextShowsWeight) {
-                state.shown = None;
-            }
+            self.wrong(state, name);
             return self.status(name, "L");
         }
-        if state.latest.is_none() && matches!(name, "SI" | "SIR" | "TI" | "ZI") {
-            state.repeating |= name == "SIR" && self.has(Fault::StartedWithoutSample);
+        let needs_sample = matches!(name, "SI" | "SIR" | "TI" | "ZI") || (name == "SR" && self.has(Fault::SrNeedsSample));
+        if state.latest.is_none() && needs_sample {
+            if name == "SIR" && self.has(Fault::StartedWithoutSample) {
+                state.repetition = Repetition::Sir;
+            }
             return self.status(name, "I");
         }
         self.obey(profile, state, name, parameters)
     }
 
+    /// EL changes nothing; what faults make of the name.
+    fn logical(&self, state: &mut State, name: &str) {
+        match (self.fault, name) {
+            (Some(Fault::LogicalDwShowsWeight), "DW") => state.shown = None,
+            (Some(Fault::LogicalSirStarts), "SIR") if state.latest.is_some() => state.repetition = Repetition::Sir,
+            (Some(Fault::LogicalSiEndsSr), "S" | "SI" | "SIR") if state.on_change().is_some() => {
+                state.repetition = Repetition::Off
+            }
+            _ => {}
+        }
+    }
+
+    /// L changes nothing; what faults make of the name.
+    fn wrong(&self, state: &mut State, name: &str) {
+        match (self.fault, name) {
+            (Some(Fault::WrongTextShowsWeight), "D") => state.shown = None,
+            (Some(Fault::WrongSrEndsOld), "SR") => state.repetition = Repetition::Off,
+            _ => {}
+        }
+    }
+
     /// A name other than @ while a command waits changes nothing; what faults make of it.
     fn busy(&self, state: &mut State, name: &'static str, parameters: Parameters) {
-        let waits_too = matches!(name, "S" | "T" | "Z");
+        let waits_too = matches!(name, "S" | "T" | "Z" | "SR");
         match (self.fault, state.waiting.as_mut()) {
-            (Some(Fault::RepetitionEndedWhileWaiting), _) => state.repeating &= name != "S" && name != "SI",
-            (Some(Fault::BusySirStarts), _) => state.repeating |= name == "SIR" && state.latest.is_some(),
+            (Some(Fault::RepetitionEndedWhileWaiting), _) if matches!(name, "S" | "SI") => state.repetition = Repetition::Off,
+            (Some(Fault::BusySrEndsOld), _) if name == "SR" => state.repetition = Repetition::Off,
+            (Some(Fault::BusySirStarts), _) if name == "SIR" && state.latest.is_some() => state.repetition = Repetition::Sir,
             (Some(Fault::BusyDwShowsWeight), _) if name == "DW" => state.shown = None,
             (Some(Fault::BusyTextShown), _) => {
                 if let Parameters::Show(text) = parameters {
@@ -371,10 +442,11 @@ impl Module {
         }
     }
 
-    /// The identification is the name; for SI and SIR it is S.
+    /// The identification is the name; for SI, SIR and SR it is S.
     fn identification(&self, name: &'static str) -> &'static str {
         match name {
             "SI" | "SIR" if !self.has(Fault::OwnIdentification) => "S",
+            "SR" if !self.has(Fault::SrOwnIdentification) => "S",
             _ => name,
         }
     }
@@ -389,8 +461,14 @@ impl Module {
                 Some(text) => Parameters::Show(text),
                 None => Parameters::Wrong,
             },
-            ("TA", Some(rest)) => match self.typed(profile, rest) {
+            ("TA", Some(rest)) => match self.typed(profile, rest, Fault::TypedAboveCapacityTaken) {
                 Some(tare) => Parameters::Preset(tare),
+                None => Parameters::Wrong,
+            },
+            ("SR", Some(b"")) if self.has(Fault::LoneSpaceTaken) => Parameters::None,
+            ("SR", Some(rest)) => match self.typed(profile, rest, Fault::ThresholdAboveCapacityTaken) {
+                Some(0) if !self.has(Fault::ThresholdOfZeroTaken) => Parameters::Wrong,
+                Some(threshold) => Parameters::Threshold(threshold),
                 None => Parameters::Wrong,
             },
             _ => Parameters::None,
@@ -402,8 +480,8 @@ impl Module {
         self.can_show(text).then(|| text.to_vec())
     }
 
-    /// Number, one space, the profile's unit; at most C.
-    fn typed(&self, profile: &Profile, rest: &[u8]) -> Option<i64> {
+    /// Number, one space, the profile's unit; at most C, save for a fault that takes one more.
+    fn typed(&self, profile: &Profile, rest: &[u8], above_taken: Fault) -> Option<i64> {
         let at = rest.iter().position(|&byte| byte == b' ')?;
         let (number, mut unit) = (&rest[..at], &rest[at + 1..]);
         if self.has(Fault::TypedTwoSpaces) {
@@ -412,15 +490,14 @@ impl Module {
         if Unit::named(unit) != Some(profile.scale.unit) && !self.has(Fault::TypedUnitIgnored) {
             return None;
         }
-        let mut tare = typed_micrograms(number, profile.scale, self.fault)?;
-        let capacity = i128::from(profile.capacity);
-        if tare > capacity && !(self.has(Fault::TypedAboveCapacityTaken) && tare == capacity + 1) {
+        let mut weight = typed_micrograms(number, profile.scale, self.fault)?;
+        if weight > i128::from(profile.capacity) + i128::from(self.has(above_taken)) {
             return None;
         }
         if self.has(Fault::TypedRoundedToStep) {
-            tare = as_printed(tare, profile.scale);
+            weight = as_printed(weight, profile.scale);
         }
-        Some(tare as i64)
+        Some(weight as i64)
     }
 
     // Order 8: what each command does.
@@ -434,13 +511,14 @@ impl Module {
             "I1" if self.has(Fault::LevelOneComplete) => answer("I1 A \"01\" \"2.30\" \"2.20\""),
             "I1" => answer("I1 A \"0\" \"2.30\" \"2.20\""),
             "I2" | "I3" | "I4" | "I5" => self.text_line(profile, name),
-            "S" | "T" | "Z" => self.judge_or_wait(profile, state, name),
+            "S" | "T" | "Z" | "SR" => self.judge_or_wait(profile, state, name, parameters),
             "SI" | "SIR" => self.repeat_or_not(profile, state, name),
             "TI" => self.tare(profile, state, name),
             "ZI" => self.zero(profile, state, name),
             "TA" => self.preset_or_query(profile, state, parameters),
             "TAC" => {
                 state.tare = 0;
+                self.rebase(profile, state, Fault::SrRebasedByTypedTare);
                 self.status(name, "A")
             }
             "D" | "DW" => {
@@ -454,7 +532,7 @@ impl Module {
     /// No command but DW and @ brings the weight back.
     fn wrongly_shows_weight(&self, name: &str) -> bool {
         match self.fault {
-            Some(Fault::ReadingShowsWeight) => matches!(name, "S" | "SI" | "SIR"),
+            Some(Fault::ReadingShowsWeight) => matches!(name, "S" | "SI" | "SIR" | "SR"),
             Some(Fault::ZeroingShowsWeight) => matches!(name, "Z" | "ZI"),
             Some(Fault::TaringShowsWeight) => matches!(name, "T" | "TI"),
             Some(Fault::TypedTareShowsWeight) => matches!(name, "TA" | "TAC"),
@@ -479,60 +557,124 @@ impl Module {
         }
     }
 
-    fn judge_or_wait(&self, profile: &Profile, state: &mut State, name: &'static str) -> Vec<u8> {
-        let ends_repetition =
-            (name == "S" && !self.has(Fault::RepeatedThroughS)) || (name == "T" && self.has(Fault::RepetitionEndedByT));
-        if ends_repetition {
-            state.repeating = false;
-        }
-        if state.latest.is_some_and(|sample| sample.stable || self.has(Fault::UnstableJudged)) {
-            return self.judge(profile, state, name);
-        }
+    fn judge_or_wait(&self, profile: &Profile, state: &mut State, name: &'static str, parameters: Parameters) -> Vec<u8> {
+        let threshold = self.threshold(state, name, parameters);
+        self.end_repetition(state, name);
         let unstable = match self.fault {
             Some(Fault::LatestCounted) => u32::from(state.latest.is_some() && profile.patience > 1),
-            Some(Fault::CountNotReset) => state.spent.min(profile.patience - 1),
+            Some(Fault::CountNotReset) => state.planted.min(profile.patience - 1),
             _ => 0,
         };
-        state.waiting = Some(Wait { name, unstable });
+        let wait = Wait { name, unstable, threshold };
+        let at_once = self.has(Fault::UnstableJudged) || (name == "SR" && self.has(Fault::SrAnswersUnstable));
+        if state.latest.is_some_and(|sample| sample.stable || at_once) {
+            return self.judge(profile, state, wait);
+        }
+        state.waiting = Some(wait);
         if name == "T" && self.has(Fault::TareStoredAtCommand) && state.latest.is_some() {
             self.tare(profile, state, name);
         }
         vec![]
     }
 
-    /// S, T or Z on the latest sample.
-    fn judge(&self, profile: &Profile, state: &mut State, name: &'static str) -> Vec<u8> {
-        match name {
-            "S" => self.reading(profile, state),
-            "T" => self.tare(profile, state, name),
-            _ => self.zero(profile, state, name),
+    /// The threshold that this line sets; a new SR keeps nothing of an older one.
+    fn threshold(&self, state: &State, name: &str, parameters: Parameters) -> Option<i64> {
+        match parameters {
+            Parameters::Threshold(threshold) => Some(threshold),
+            _ if name == "SR" && self.has(Fault::ThresholdKeptFromOlder) => state.on_change()?.threshold,
+            _ => None,
+        }
+    }
+
+    /// S, SI, SIR and SR end what repeats when they reach order 8.
+    fn end_repetition(&self, state: &mut State, name: &str) {
+        let ends = match (state.repetition, name) {
+            (Repetition::Sir, "S") => !self.has(Fault::RepeatedThroughS),
+            (Repetition::Sir, "SI") => !self.has(Fault::RepeatedThroughSi),
+            (Repetition::Sir, "SR") => !self.has(Fault::SirOutlivesSr) && !self.has(Fault::SirKeptBySr),
+            (Repetition::Sr(_), "S") => !self.has(Fault::SrOutlivesS),
+            (Repetition::Sr(_), "SI") => !self.has(Fault::SrOutlivesSi),
+            (Repetition::Sr(_), "SIR") => !self.has(Fault::SrOutlivesSir),
+            (Repetition::Sr(_), "SR") => !self.has(Fault::SrOutlivesSr),
+            (_, "T") => self.has(Fault::RepetitionEndedByT),
+            _ => name == "SIR",
+        };
+        if self.has(Fault::NewSrKeepsOwed) {
+            state.planted = state.on_change().map_or(0, |memory| memory.owed.into());
+        }
+        if ends {
+            state.repetition = Repetition::Off;
+        }
+    }
+
+    /// S, T, Z or SR on the latest sample.
+    fn judge(&self, profile: &Profile, state: &mut State, wait: Wait) -> Vec<u8> {
+        match wait.name {
+            "S" => self.reading_line(profile, state),
+            "T" => self.tare(profile, state, wait.name),
+            "SR" => self.start_on_change(profile, state, wait.threshold),
+            _ => self.zero(profile, state, wait.name),
         }
     }
 
     fn repeat_or_not(&self, profile: &Profile, state: &mut State, name: &str) -> Vec<u8> {
-        let text = self.reading(profile, state);
-        if name == "SIR" {
-            let outside = text == answer("S +") || text == answer("S -");
-            state.repeating |= !(outside && self.has(Fault::OverloadStartsNone));
-        } else if !self.has(Fault::RepeatedThroughSi) {
-            state.repeating = false;
+        self.end_repetition(state, name);
+        let outside = self.reading(profile, state).is_some_and(|reading| reading.out.is_some());
+        let starts = name == "SIR" && state.on_change().is_none() && !(outside && self.has(Fault::OverloadStartsNone));
+        if starts {
+            state.repetition = Repetition::Sir;
         }
-        text
+        self.reading_line(profile, state)
     }
 
-    /// The answer of S and SI to the latest sample.
-    fn reading(&self, profile: &Profile, state: &State) -> Vec<u8> {
-        let Some((gross, status)) = gross_and_status(state) else { return vec![] };
+    /// What the S family makes of the latest sample.
+    fn reading(&self, profile: &Profile, state: &State) -> Option<Reading> {
+        let sample = state.latest?;
+        let gross = i128::from(sample.load) - i128::from(state.zero);
         let net = gross - i128::from(state.tare);
         let judged = if self.has(Fault::CapacityByNet) { net } else { gross };
         let most = i128::from(profile.capacity) - i128::from(self.has(Fault::CapacityOffByOne));
         let least = -i128::from(profile.margin) + i128::from(self.has(Fault::MarginOffByOne));
-        if judged > most {
-            answer("S +")
+        let out = if judged > most {
+            Some('+')
         } else if gross < least {
-            answer("S -")
+            Some('-')
         } else {
-            self.weight_line(profile, "S", status, net)
+            None
+        };
+        Some(Reading { net, stable: sample.stable, out })
+    }
+
+    /// The answer of S and SI to the latest sample.
+    fn reading_line(&self, profile: &Profile, state: &State) -> Vec<u8> {
+        match self.reading(profile, state) {
+            None => vec![],
+            Some(Reading { out: Some(sign), .. }) => answer(&format!("S {sign}")),
+            Some(Reading { net, stable, .. }) => self.weight_line(profile, "S", mark(stable), net),
+        }
+    }
+
+    /// SR's first answer is that of S. A weight starts it; I, + and - leave it off.
+    fn start_on_change(&self, profile: &Profile, state: &mut State, threshold: Option<i64>) -> Vec<u8> {
+        let Some(reading) = self.reading(profile, state) else { return vec![] };
+        let kept_off = self.has(Fault::SirKeptBySr) && state.repetition == Repetition::Sir;
+        if reading.out.is_none() && !kept_off {
+            state.repetition = Repetition::Sr(self.started_on_change(profile, state, reading.net, threshold));
+        } else if self.has(Fault::SrStartedByOverload) {
+            state.repetition = Repetition::Sr(OnChange { threshold, ..OnChange::default() });
+        }
+        self.reading_line(profile, state)
+    }
+
+    /// SR's memory after its first answer.
+    fn started_on_change(&self, profile: &Profile, state: &State, net: i128, threshold: Option<i64>) -> OnChange {
+        let fixed = || Some(least_change(net, None, profile.scale).min(profile.capacity.into()) as i64);
+        let memory = OnChange { last: kept_net(net, profile.scale, self.fault), threshold, owed: false, out: false };
+        match self.fault {
+            Some(Fault::NewSrKeepsOwed) => OnChange { owed: state.planted == 1, ..memory },
+            Some(Fault::FirstNetForgotten) => OnChange { last: 0, ..memory },
+            Some(Fault::ThresholdFixedAtStart) => OnChange { threshold: threshold.or_else(fixed), ..memory },
+            _ => memory,
         }
     }
 
@@ -552,6 +694,7 @@ impl Module {
         if !self.has(Fault::ZeroingKeepsTare) {
             state.tare = 0;
         }
+        self.rebase(profile, state, Fault::SrRebasedByZeroing);
         match (name, sample.stable) {
             ("Z", _) => self.status(name, "A"),
             (_, true) => self.status(name, "S"),
@@ -560,7 +703,8 @@ impl Module {
     }
 
     fn tare(&self, profile: &Profile, state: &mut State, name: &'static str) -> Vec<u8> {
-        let Some((gross, status)) = gross_and_status(state) else { return vec![] };
+        let Some(sample) = state.latest else { return vec![] };
+        let gross = i128::from(sample.load) - i128::from(state.zero);
         let capacity = i128::from(profile.capacity);
         if gross > capacity + i128::from(self.has(Fault::TareAboveCapacityTaken)) {
             return self.status(name, "+");
@@ -575,13 +719,23 @@ impl Module {
             _ => gross,
         };
         state.tare = kept.clamp(0, capacity) as i64;
+        self.rebase(profile, state, Fault::SrRebasedByTaring);
         let told = if self.has(Fault::TareAnswersNet) { gross - before } else { gross };
-        self.weight_line(profile, name, status, told)
+        self.weight_line(profile, name, mark(sample.stable), told)
+    }
+
+    /// Zeroing and taring leave SR's last net; faults put the present one in its place.
+    fn rebase(&self, profile: &Profile, state: &mut State, fault: Fault) {
+        let reading = self.reading(profile, state).filter(|reading| reading.out.is_none() && self.has(fault));
+        if let (Some(reading), Repetition::Sr(memory)) = (reading, &mut state.repetition) {
+            memory.last = reading.net as i64;
+        }
     }
 
     fn preset_or_query(&self, profile: &Profile, state: &mut State, parameters: Parameters) -> Vec<u8> {
         if let Parameters::Preset(tare) = parameters {
             state.tare = tare;
+            self.rebase(profile, state, Fault::SrRebasedByTypedTare);
         }
         let text = self.weight_line(profile, "TA", "A", state.tare.into());
         if matches!(parameters, Parameters::None) && self.has(Fault::QueryClearsTare) {
@@ -595,7 +749,13 @@ impl Module {
         if !self.has(Fault::ResetKeepsWaiting) {
             self.end_wait(state);
         }
-        state.repeating &= self.has(Fault::ResetKeepsRepetition);
+        let repeats_on = match state.repetition {
+            Repetition::Sr(_) => Fault::SrOutlivesReset,
+            _ => Fault::ResetKeepsRepetition,
+        };
+        if !self.has(repeats_on) {
+            state.repetition = Repetition::Off;
+        }
         if !self.has(Fault::ResetKeepsTare) {
             state.tare = 0;
         }
@@ -624,14 +784,46 @@ impl Module {
         if self.has(Fault::SampleShowsWeight) {
             state.shown = None;
         }
-        let Some(wait) = state.waiting else {
-            return if state.repeating { self.repeated(profile, state) } else { vec![] };
-        };
+        let Some(wait) = state.waiting else { return self.unasked(profile, state) };
+        if self.has(Fault::WaitingSampleMovesSr) {
+            self.changed(profile, state);
+        }
         if sample.stable {
             self.end_wait(state);
-            return self.judge(profile, state, wait.name);
+            return self.judge(profile, state, wait);
         }
         self.count_unstable(profile, state, wait)
+    }
+
+    /// What a sample sends that finds no command waiting.
+    fn unasked(&self, profile: &Profile, state: &mut State) -> Vec<u8> {
+        let sent = match state.repetition {
+            Repetition::Off => false,
+            Repetition::Sir => true,
+            Repetition::Sr(_) => self.changed(profile, state),
+        };
+        if !sent {
+            return vec![];
+        }
+        let ends = match state.repetition {
+            Repetition::Sr(_) => Fault::ExcursionEndsSr,
+            _ => Fault::OverloadEndsRepetition,
+        };
+        if self.has(ends) && self.reading(profile, state).is_some_and(|reading| reading.out.is_some()) {
+            state.repetition = Repetition::Off;
+        }
+        self.reading_line(profile, state)
+    }
+
+    /// A running SR takes the latest sample; true if it sends it.
+    fn changed(&self, profile: &Profile, state: &mut State) -> bool {
+        let Some(reading) = self.reading(profile, state) else { return false };
+        let Repetition::Sr(memory) = &mut state.repetition else { return false };
+        if self.has(Fault::OtherSideSentToo) {
+            let side = reading.out.map_or(0, u32::from);
+            memory.out &= side == std::mem::replace(&mut state.planted, side);
+        }
+        memory.sends(reading, profile.scale, self.fault)
     }
 
     /// The sample that came, save for faults.
@@ -645,17 +837,9 @@ impl Module {
         }
     }
 
-    fn repeated(&self, profile: &Profile, state: &mut State) -> Vec<u8> {
-        let text = self.reading(profile, state);
-        if self.has(Fault::OverloadEndsRepetition) {
-            state.repeating = !text.starts_with(b"S +") && !text.starts_with(b"S -");
-        }
-        text
-    }
-
     fn end_wait(&self, state: &mut State) {
         if self.has(Fault::CountNotReset) {
-            state.spent = state.waiting.map_or(state.spent, |wait| wait.unstable);
+            state.planted = state.waiting.map_or(state.planted, |wait| wait.unstable);
         }
         state.waiting = None;
     }
@@ -667,24 +851,37 @@ impl Module {
         let late = u32::from(self.has(Fault::TimeoutLate));
         if unstable < profile.patience - early + late {
             state.waiting = Some(Wait { unstable, ..wait });
-            let repeats = state.repeating && self.has(Fault::RepeatedWhileWaiting);
-            return if repeats { self.reading(profile, state) } else { vec![] };
+            return self.sent_while_waiting(profile, state);
         }
         self.end_wait(state);
         if self.has(Fault::TimeoutShowsWeight) {
             state.shown = None;
         }
-        if self.has(Fault::TimeoutForgetsSample) && !state.repeating {
+        if self.has(Fault::TimeoutForgetsSample) && state.repetition == Repetition::Off {
             state.latest = None;
         }
-        state.repeating &= !self.has(Fault::TimeoutEndsRepetition);
+        if self.has(Fault::TimeoutEndsRepetition) {
+            state.repetition = Repetition::Off;
+        }
         if self.has(Fault::TareKeptAfterTimeout) && wait.name == "T" {
             self.tare(profile, state, wait.name);
         }
         if self.has(Fault::ZeroKeptAfterTimeout) && wait.name == "Z" {
             self.zero(profile, state, wait.name);
         }
+        if self.has(Fault::SrStartedByTimeout) && wait.name == "SR" {
+            self.start_on_change(profile, state, wait.threshold);
+        }
         self.status(wait.name, "I")
+    }
+
+    /// Nothing, save for faults: a sample that finds a command waiting gives only that command's answer.
+    fn sent_while_waiting(&self, profile: &Profile, state: &mut State) -> Vec<u8> {
+        match (self.fault, state.repetition) {
+            (Some(Fault::RepeatedWhileWaiting), Repetition::Sir) => self.reading_line(profile, state),
+            (Some(Fault::SrSentWhileWaiting), Repetition::Sr(_)) => self.unasked(profile, state),
+            _ => vec![],
+        }
     }
 
     // Answers.
@@ -709,7 +906,8 @@ impl Module {
     fn list(&self) -> Vec<u8> {
         let last = if self.has(Fault::LastListedB) { "B" } else { "A" };
         let status = |name| if name == "TI" { last } else { "B" };
-        COMMANDS.iter().flat_map(|(name, level)| answer(&format!("I0 {} {level} \"{name}\"", status(*name)))).collect()
+        let listed = COMMANDS.iter().filter(|(name, _)| *name != "SR" || !self.has(Fault::SrUnlisted));
+        listed.flat_map(|(name, level)| answer(&format!("I0 {} {level} \"{name}\"", status(*name)))).collect()
     }
 }
 
@@ -717,9 +915,11 @@ fn answer(text: &str) -> Vec<u8> {
     format!("{text}\r\n").into_bytes()
 }
 
-/// Gross = load - zero, and S or D by the mark.
-fn gross_and_status(state: &State) -> Option<(i128, &'static str)> {
-    let sample = state.latest?;
-    let status = if sample.stable { "S" } else { "D" };
-    Some((i128::from(sample.load) - i128::from(state.zero), status))
+/// S or D by the sample's mark.
+fn mark(stable: bool) -> &'static str {
+    if stable {
+        "S"
+    } else {
+        "D"
+    }
 }

@@ -3,6 +3,7 @@
 
 use crate::compare::Script;
 use crate::module::{Module, State, COMMANDS};
+use crate::on_change::least_change;
 use crate::profile::{Profile, TEXT_ROOMS};
 use crate::replay::Replay;
 use crate::weight::{number_text, ten_to, Scale, Unit, UNITS};
@@ -205,6 +206,23 @@ fn whole_part(number: &str) -> &str {
     number.split('.').next().unwrap_or(number)
 }
 
+/// At least 1; margin and zeroing range stay within it.
+fn with_capacity(profile: Profile, capacity: u32) -> Profile {
+    let capacity = capacity.max(1);
+    Profile { capacity, margin: profile.margin.min(capacity), zeroing: profile.zeroing.min(capacity), ..profile }
+}
+
+/// C drawn in to a limit, or U + C to one below zero, or to just below it; C keeps room for the tare.
+fn narrowed_to(former: &Profile, limit: i64, tare: u32, below: u32) -> Profile {
+    let size = limit.unsigned_abs() as u32;
+    if limit >= 0 {
+        return with_capacity(former.clone(), size.saturating_sub(below));
+    }
+    let other = with_capacity(former.clone(), former.capacity.min(tare.max(size - size / 3)));
+    let margin = size.saturating_sub(other.capacity).saturating_sub(below).min(other.capacity);
+    Profile { margin, ..other }
+}
+
 fn text_line(at: usize, text: &[u8]) -> Vec<u8> {
     [format!("text {} ", at + 2).as_bytes(), text].concat()
 }
@@ -290,18 +308,19 @@ impl Maker<'_> {
 
     fn step(&mut self) {
         match self.rng.below(100) {
-            0..=30 => self.sample(),
-            31..=32 => self.show(),
-            33..=62 => self.command(),
-            63..=75 => self.odd_line(),
-            76..=82 => self.raw_line(),
-            83..=85 => self.short_room(),
-            86..=88 => self.other_profile(),
-            89 => self.new_text(),
-            90 => self.odd_script_line(),
-            91 => self.say("on"),
-            92..=95 => self.wait(),
-            96..=97 => self.repeat(),
+            0..=28 => self.sample(),
+            29..=30 => self.show(),
+            31..=59 => self.command(),
+            60..=71 => self.odd_line(),
+            72..=78 => self.raw_line(),
+            79..=81 => self.short_room(),
+            82..=84 => self.other_profile(),
+            85 => self.new_text(),
+            86 => self.odd_script_line(),
+            87 => self.say("on"),
+            88..=91 => self.wait(),
+            92..=93 => self.repeat(),
+            94..=97 => self.send_on_change(),
             _ => self.tare_and_weigh(),
         }
     }
@@ -313,12 +332,18 @@ impl Maker<'_> {
     // Samples.
 
     fn sample(&mut self) {
-        let stable = self.rng.chance(55);
-        self.sample_of(stable);
+        let load = self.load();
+        self.put_mostly(load, 55);
     }
 
     fn sample_of(&mut self, stable: bool) {
         let load = self.load();
+        self.put(load, stable);
+    }
+
+    /// Stable so often, in per cent.
+    fn put_mostly(&mut self, load: i128, percent: usize) {
+        let stable = self.rng.chance(percent);
         self.put(load, stable);
     }
 
@@ -329,10 +354,13 @@ impl Maker<'_> {
         self.say(&format!("{mark} {zeros}{load}"));
     }
 
-    /// A load at or near an edge: of capacity, margin, zeroing range, 32 bits, or a tie of the rounding.
+    /// A load at or near an edge: of capacity, margin, zeroing range, 32 bits, a tie of the rounding, or what a running SR sends.
     fn load(&mut self) -> i128 {
         let profile = self.replay.profile.clone();
         let state = self.state();
+        if let Some(load) = self.changed_load(&profile, &state).filter(|_| self.rng.chance(40)) {
+            return load;
+        }
         let (zero, tare) = (i128::from(state.zero), i128::from(state.tare));
         let (capacity, margin) = (i128::from(profile.capacity), i128::from(profile.margin));
         let range = i128::from(profile.zeroing);
@@ -352,6 +380,14 @@ impl Maker<'_> {
             15 => state.latest.map_or(0, |sample| sample.load.into()) + near,
             _ => zero + self.rng.between(-margin, capacity),
         }
+    }
+
+    /// A load by which net differs from the last one that SR sent by about its threshold, or not at all; none if it does not run.
+    fn changed_load(&mut self, profile: &Profile, state: &State) -> Option<i128> {
+        let memory = state.on_change().filter(|_| !profile.is_refused(None))?;
+        let least = least_change(memory.last.into(), memory.threshold, profile.scale);
+        let by = self.rng.pick(&[0, least - 1, least - 1, least, least, least, least + 1]);
+        Some(i128::from(state.zero + state.tare + memory.last) + self.rng.pick(&[-1, 1]) * by)
     }
 
     /// A net that is printed with a tie, or nearly.
@@ -388,33 +424,35 @@ impl Maker<'_> {
     }
 
     fn command_line(&mut self) -> Vec<u8> {
-        const NAMES: [&str; 30] = [
-            "S", "S", "S", "SI", "SI", "SI", "SI", "SIR", "SIR", "T", "T", "T", "TI", "TI", "Z", "Z", "ZI", "ZI", "TA", "TA",
-            "TAC", "@", "D", "DW", "I0", "I1", "I2", "I3", "I4", "I5",
+        const NAMES: [&str; 32] = [
+            "S", "S", "S", "SI", "SI", "SI", "SI", "SIR", "SIR", "SR", "SR", "T", "T", "T", "TI", "TI", "Z", "Z", "ZI", "ZI",
+            "TA", "TA", "TAC", "@", "D", "DW", "I0", "I1", "I2", "I3", "I4", "I5",
         ];
         match self.rng.below(100) {
-            0..=15 => self.typed_tare(),
-            16..=20 => self.shown_text(),
+            0..=14 => self.typed_line("TA"),
+            15..=19 => self.shown_text(),
+            20..=24 => self.typed_line("SR"),
             _ => self.rng.pick(&NAMES).as_bytes().to_vec(),
         }
     }
 
-    fn typed_tare(&mut self) -> Vec<u8> {
+    /// TA or SR with a number and a unit, or nearly.
+    fn typed_line(&mut self, name: &str) -> Vec<u8> {
         let (number, unit) = (self.typed_number(), self.replay.profile.scale.unit.name().to_string());
         let other = self.rng.pick(&UNITS).name();
         let text = match self.rng.below(24) {
-            0 => format!("TA {number}"),
-            1 => format!("TA {number} {other}"),
-            2 => format!("TA {number} {}", unit.to_uppercase()),
-            3 => format!("TA {number} {}", unit.to_lowercase()),
-            4 => format!("TA  {number} {unit}"),
-            5 => format!("TA {number}  {unit}"),
-            6 => format!("TA {number} {unit} "),
-            7 => format!("TA {number}{unit}"),
-            8 => format!("TA {unit} {number}"),
-            9 => format!("TA {number} {unit}x"),
-            10 => self.rng.pick(&["TA ", "TA  ", "TA - g", "TA . g", "TA  g", "TA 1.2.3 g", "TA 1 kg"]).to_string(),
-            _ => format!("TA {number} {unit}"),
+            0 => format!("{name} {number}"),
+            1 => format!("{name} {number} {other}"),
+            2 => format!("{name} {number} {}", unit.to_uppercase()),
+            3 => format!("{name} {number} {}", unit.to_lowercase()),
+            4 => format!("{name}  {number} {unit}"),
+            5 => format!("{name} {number}  {unit}"),
+            6 => format!("{name} {number} {unit} "),
+            7 => format!("{name} {number}{unit}"),
+            8 => format!("{name} {unit} {number}"),
+            9 => format!("{name} {number} {unit}x"),
+            10 => format!("{name} {}", self.rng.pick(&["", " ", "- g", ". g", " g", "1.2.3 g", "1 kg", "x"])),
+            _ => format!("{name} {number} {unit}"),
         };
         text.into_bytes()
     }
@@ -492,7 +530,10 @@ impl Maker<'_> {
             10 => format!("{name}{name}"),
             11 => self
                 .rng
-                .pick(&["SIX", "SIRR", "TAX", "TACT", "ZIR", "I6", "I", "I00", "DWA", "K", "SR", "C", "s", "si"])
+                .pick(&[
+                    "SIX", "SIRR", "TAX", "TACT", "ZIR", "I6", "I", "I00", "DWA", "K", "SRX", "SRR", "SRU", "RS", "C", "s", "si",
+                    "sr",
+                ])
                 .to_string(),
             12 => return self.long_line(),
             13 => return self.long_line(),
@@ -504,7 +545,8 @@ impl Maker<'_> {
     /// A line of 62 to 67 bytes, or of many more.
     fn long_line(&mut self) -> Vec<u8> {
         let length = if self.rng.chance(80) { self.rng.between(62, 67) } else { self.rng.between(60, 200) } as usize;
-        let mut line = self.rng.pick(&["S ", "D \"", "D ", "TA ", "@ ", "X", "T 1 ", "TA 1 g "]).as_bytes().to_vec();
+        let mut line =
+            self.rng.pick(&["S ", "D \"", "D ", "TA ", "@ ", "X", "T 1 ", "TA 1 g ", "SR ", "SR 1 g "]).as_bytes().to_vec();
         let filler = self.rng.pick(b" x0\"");
         line.resize(length, filler);
         line
@@ -566,7 +608,7 @@ impl Maker<'_> {
         let room = match self.rng.below(10) {
             0..=1 => self.rng.between(0, 3),
             2..=7 => self.rng.between(4, 30),
-            8 => self.rng.between(229, 233),
+            8 => self.rng.between(242, 246),
             _ => self.rng.pick(&[31, 48, 49, 50, 255, 256, 257, 1023, 1024]),
         };
         self.say(&format!("room {room}"));
@@ -618,18 +660,30 @@ impl Maker<'_> {
         let state = self.state();
         let mut other = former.clone();
         let below = self.rng.below(2) as u32;
+        if let Some(limit) = self.limit_of_sr(&state).filter(|_| self.rng.chance(60)) {
+            return narrowed_to(former, limit, state.tare as u32, below);
+        }
         let chosen = if state.waiting.is_some() && self.rng.chance(60) { 3 } else { self.rng.below(5) };
         match chosen {
-            0 => {
-                other.capacity = (state.tare as u32).saturating_sub(below).max(1);
-                other.margin = other.margin.min(other.capacity);
-                other.zeroing = other.zeroing.min(other.capacity);
-            }
+            0 => other = with_capacity(other, (state.tare as u32).saturating_sub(below)),
             1 | 2 => other.zeroing = (state.zero.unsigned_abs() as u32).saturating_sub(below),
             3 => other.patience = (state.waiting.map_or(1, |wait| wait.unstable + 1)).saturating_sub(below).max(1),
             _ => other.scale = any_scale(self.rng),
         }
         other
+    }
+
+    /// The last net or the set threshold of an SR that runs or waits; as a rule the larger, so that it alone is out of its range.
+    fn limit_of_sr(&mut self, state: &State) -> Option<i64> {
+        let memory = state.on_change();
+        let set = state.waiting.and_then(|wait| wait.threshold).or(memory.and_then(|memory| memory.threshold));
+        let last = memory.map(|memory| memory.last);
+        let larger = set.max(last);
+        if self.rng.chance(70) {
+            larger
+        } else {
+            last.or(larger)
+        }
     }
 
     fn new_text(&mut self) {
@@ -703,8 +757,17 @@ impl Maker<'_> {
         if self.rng.chance(70) {
             self.sample_of(false);
         }
-        let name = self.rng.pick(&["> S", "> T", "> T", "> Z", "> Z"]);
-        self.say(name);
+        let line = if self.rng.chance(25) { self.sr_line() } else { self.rng.pick(&[b"S", b"T", b"T", b"Z", b"Z"]).to_vec() };
+        self.send(line);
+        if self.state().waiting.is_some_and(|wait| wait.threshold.is_some()) && self.rng.chance(50) {
+            self.other_profile();
+        }
+        self.wait_on();
+        self.say("> TA");
+        self.say("> SI");
+    }
+
+    fn wait_on(&mut self) {
         let patience = self.replay.profile.patience.min(8);
         for _ in 0..self.rng.between(0, i128::from(patience) + 1) {
             self.sample_of(false);
@@ -716,8 +779,6 @@ impl Maker<'_> {
             }
         }
         self.sample();
-        self.say("> TA");
-        self.say("> SI");
     }
 
     fn repeat(&mut self) {
@@ -728,6 +789,127 @@ impl Maker<'_> {
                 _ => self.sample(),
             }
         }
+    }
+
+    /// SR runs, and samples come close to its threshold; now and then something comes in between, after which it may run on or not.
+    fn send_on_change(&mut self) {
+        let load = self.first_load();
+        self.put_mostly(load, 80);
+        let line = self.sr_line();
+        self.send(line);
+        if self.rng.chance(10) {
+            self.other_profile();
+        }
+        for _ in 0..self.rng.between(4, 14) {
+            match self.rng.below(32) {
+                0 => self.command(),
+                1 => self.odd_line(),
+                2 => self.raw_line(),
+                3 => self.short_room(),
+                4..=6 => self.other_profile(),
+                7 | 8 => self.tare_or_zero(),
+                9 => {
+                    self.sample_of(false);
+                    let line = self.rng.pick(&["> T", "> T", "> Z"]);
+                    self.say(line);
+                    self.wait_on();
+                }
+                10..=12 => self.excursion(),
+                13 => {
+                    let line = self.sr_line();
+                    self.send(line);
+                }
+                14 => {
+                    let line = self.rng.pick(&["> S", "> SI", "> SIR", "> @", "> SI 1", "> SR x", "> SR 0 g", "> SR "]);
+                    self.say(line);
+                }
+                15 => self.short_of_a_reading(),
+                _ => self.sample_near_change(),
+            }
+        }
+    }
+
+    /// SR alone, with a threshold of some display steps, or with any parameter.
+    fn sr_line(&mut self) -> Vec<u8> {
+        let Scale { unit, decimals, .. } = self.replay.profile.scale;
+        match self.rng.below(10) {
+            0..=5 => b"SR".to_vec(),
+            6..=7 => {
+                let number = number_text(self.rng.between(0, 60), decimals.min(6), false);
+                format!("SR {number} {}", unit.name()).into_bytes()
+            }
+            _ => self.typed_line("SR"),
+        }
+    }
+
+    /// A load in range of which the net is zero, where the eighth and the 30 steps meet, a multiple of eight, or any.
+    fn first_load(&mut self) -> i128 {
+        let (profile, state) = (self.replay.profile.clone(), self.state());
+        let (zero, tare) = (i128::from(state.zero), i128::from(state.tare));
+        let (lowest, highest) = (-i128::from(profile.margin), i128::from(profile.capacity));
+        let any = self.rng.between(lowest, highest) - tare;
+        let net = match self.rng.below(5) {
+            0 => self.rng.between(-2, 2),
+            1 if !profile.is_refused(None) => {
+                self.rng.pick(&[-8, 8]) * least_change(0, None, profile.scale) + self.rng.between(-2, 2)
+            }
+            2 => any / 8 * 8,
+            _ => any,
+        };
+        zero + (net + tare).clamp(lowest, highest)
+    }
+
+    fn sample_near_change(&mut self) {
+        let (profile, state) = (self.replay.profile.clone(), self.state());
+        match self.changed_load(&profile, &state) {
+            Some(load) => self.put_mostly(load, 50),
+            None => self.sample(),
+        }
+    }
+
+    /// Some samples out of range at either side, then as a rule one that is back.
+    fn excursion(&mut self) {
+        let (profile, zero) = (self.replay.profile.clone(), i128::from(self.state().zero));
+        for _ in 0..self.rng.between(1, 3) {
+            let by = self.rng.between(1, 3);
+            let load = if self.rng.chance(50) { i128::from(profile.capacity) + by } else { -i128::from(profile.margin) - by };
+            self.put_mostly(zero + load, 50);
+        }
+        if self.rng.chance(80) {
+            self.sample_near_change();
+        }
+    }
+
+    /// Zero or tare moves under SR.
+    fn tare_or_zero(&mut self) {
+        match self.rng.below(8) {
+            0 | 1 => {
+                let line = self.typed_line("TA");
+                self.send(line);
+            }
+            2 | 3 => {
+                let range = i128::from(self.replay.profile.zeroing);
+                let load = self.rng.between(-range, range);
+                self.put(load, true);
+                let line = self.rng.pick(&["> Z", "> ZI"]);
+                self.say(line);
+            }
+            _ => {
+                let line = self.rng.pick(&["> T", "> T", "> TI", "> TAC"]);
+                self.say(line);
+            }
+        }
+    }
+
+    /// A room that is one too short for the weight or for + and -, while samples come close to the threshold.
+    fn short_of_a_reading(&mut self) {
+        let unit = self.replay.profile.scale.unit.name().len();
+        let room = self.rng.pick(&[0, 4, 5, 16 + unit, 16 + unit, 17 + unit]);
+        self.say(&format!("room {room}"));
+        for _ in 0..self.rng.between(1, 4) {
+            self.sample_near_change();
+        }
+        self.say("room 256");
     }
 
     /// A text is shown, then comes what has to leave it, or what takes it away.
@@ -823,7 +1005,9 @@ fn answer_line(rng: &mut Rng) -> Vec<u8> {
         0..=4 => weight_body(rng).into_bytes(),
         5 | 6 => {
             let letters = ["A", "A", "S", "D", "+", "-", "L", "I", "I", "B"];
-            format!("{} {}", rng.pick(&COMMANDS).0, rng.pick(&letters)).into_bytes()
+            let names = COMMANDS.map(|(name, _)| name);
+            let name = if rng.chance(20) { rng.pick(&["S", "SR", "SR", "SI"]) } else { rng.pick(&names) };
+            format!("{name} {}", rng.pick(&letters)).into_bytes()
         }
         7 => rng
             .pick(&["ES", "ET", "EL", "EI", "es", "E", "I1 A \"0\" \"2.30\" \"2.20\"", "I1 A \"01\" \"2.30\" \"2.20\""])

@@ -68,7 +68,12 @@ impl Reader {
     }
 
     fn read_status(&self, identification: &str, status: char) -> Option<Answer> {
+        if self.has(Fault::ReadNoWrongS) && (identification, status) == ("S", 'L') {
+            return None;
+        }
         let known = has_status(identification, status)
+            || (self.has(Fault::ReadSrBusy) && (identification, status) == ("SR", 'I'))
+            || (self.has(Fault::ReadSrWrong) && (identification, status) == ("SR", 'L'))
             || (self.has(Fault::ReadSiBusy) && matches!((identification, status), ("SI" | "SIR", 'I')))
             || (self.has(Fault::ReadResetBusy) && (identification, status) == ("@", 'I'))
             || (self.has(Fault::ReadBareZeroing) && (identification, status) == ("ZI", 'A'))
@@ -173,8 +178,8 @@ pub fn has_status(identification: &str, status: char) -> bool {
         'A' => ["Z", "TAC", "D", "DW"].contains(&identification),
         'S' | 'D' => identification == "ZI",
         '+' | '-' => ["S", "Z", "ZI", "T", "TI"].contains(&identification),
-        'L' => ["D", "TA"].contains(&identification),
-        'I' => !["SI", "SIR", "@"].contains(&identification) && COMMANDS.iter().any(|(name, _)| *name == identification),
+        'L' => ["S", "D", "TA"].contains(&identification),
+        'I' => !["SI", "SIR", "SR", "@"].contains(&identification) && COMMANDS.iter().any(|(name, _)| *name == identification),
         _ => false,
     }
 }

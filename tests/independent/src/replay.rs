@@ -1,7 +1,8 @@
 //! The program replay of issue 6: a script in, the module's answers out.
 
 use crate::faults::Fault;
-use crate::module::{Line, Module, Outcome, Sample, State};
+use crate::module::{Line, Module, Outcome, Repetition, Sample, State, Wait};
+use crate::on_change::OnChange;
 use crate::profile::{Profile, TEXT_ROOMS};
 use crate::tally::Call;
 use crate::weight::{Scale, Unit};
@@ -99,12 +100,33 @@ fn state_line(state: &State) -> Vec<u8> {
         let mark = if sample.stable { "s" } else { "u" };
         format!("{mark} {}", sample.load)
     });
-    let waits = state.waiting.map_or("none".to_string(), |wait| format!("{} {}", wait.name, wait.unstable));
-    let repeats = if state.repeating { "SIR" } else { "no" };
+    let waits = state.waiting.map_or("none".to_string(), wait_words);
+    let repeats = match state.repetition {
+        Repetition::Off => "no".to_string(),
+        Repetition::Sir => "SIR".to_string(),
+        Repetition::Sr(memory) => change_words(memory),
+    };
     let shows = state.shown.as_ref().map_or(b"weight".to_vec(), |text| [b"\"", &text[..], b"\""].concat());
     let before = format!("state zero {} tare {} sample {sample} waits {waits} repeats {repeats} shows ", state.zero, state.tare);
     let after = format!(" line {}\r\n", line_words(&state.line));
     [before.as_bytes(), &shows, after.as_bytes()].concat()
+}
+
+/// The waiting command and its count; for SR the threshold that it sets.
+fn wait_words(wait: Wait) -> String {
+    let set = if wait.name == "SR" { format!(" {}", threshold_word(wait.threshold)) } else { String::new() };
+    format!("{} {}{set}", wait.name, wait.unstable)
+}
+
+/// A running SR: the last stable net sent, the set threshold, and what else is so.
+fn change_words(memory: OnChange) -> String {
+    let owed = if memory.owed { " owed" } else { "" };
+    let out = if memory.out { " out" } else { "" };
+    format!("SR {} {}{owed}{out}", memory.last, threshold_word(memory.threshold))
+}
+
+fn threshold_word(threshold: Option<i64>) -> String {
+    threshold.map_or("-".to_string(), |set| set.to_string())
 }
 
 /// The bytes held, and what else is so; a CR that stands apart is not counted.

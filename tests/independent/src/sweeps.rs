@@ -2,6 +2,7 @@
 
 use crate::compare::Script;
 use crate::module::COMMANDS;
+use crate::on_change::least_change;
 use crate::profile::Profile;
 use crate::random::{largest, profile_line};
 use crate::weight::{number_text, ten_to, Scale, Unit, UNITS};
@@ -9,6 +10,8 @@ use crate::weight::{number_text, ten_to, Scale, Unit, UNITS};
 pub fn scripts() -> Vec<Script> {
     let mut scripts: Vec<Script> = scales().map(widths).collect();
     scripts.extend(UNITS.map(typed_limits));
+    scripts.extend(UNITS.map(threshold_limits));
+    scripts.extend(scales().filter_map(changes));
     scripts.extend([names(), bytes(), lengths(), faults(), patience(), rooms(), repetition(), display()]);
     scripts
 }
@@ -35,18 +38,29 @@ fn scales() -> impl Iterator<Item = Scale> {
 
 /// The widest capacity and margin of a scale and one more of each, with weights at both ends.
 fn widths(scale: Scale) -> Script {
-    let base = Profile { margin: 0, zeroing: 0, scale, ..Profile::a() };
-    let accepts = |profile: &Profile| !profile.is_refused(None);
-    let capacity = largest(1_000_000_000, |capacity| accepts(&Profile { capacity, ..base.clone() })).max(1);
-    let halved = Profile { capacity: capacity.div_ceil(2), ..base.clone() };
-    let margin = largest(halved.capacity, |margin| accepts(&Profile { margin, ..halved.clone() }));
+    let highest = Profile { margin: 0, zeroing: 0, scale, capacity: widest_capacity(scale), ..Profile::a() };
+    let lowest = widest_margin(scale);
     let profiles = [
-        Profile { capacity, ..base.clone() },
-        Profile { capacity: capacity + 1, ..base.clone() },
-        Profile { margin, ..halved.clone() },
-        Profile { margin: margin + 1, ..halved.clone() },
+        highest.clone(),
+        Profile { capacity: highest.capacity + 1, ..highest },
+        lowest.clone(),
+        Profile { margin: lowest.margin + 1, ..lowest },
     ];
     script(profiles.iter().flat_map(ends))
+}
+
+/// The largest capacity that a scale can have, without a margin.
+fn widest_capacity(scale: Scale) -> u32 {
+    let base = Profile { margin: 0, zeroing: 0, scale, ..Profile::a() };
+    largest(1_000_000_000, |capacity| !Profile { capacity, ..base.clone() }.is_refused(None)).max(1)
+}
+
+/// Half of that, and the largest margin beside it.
+fn widest_margin(scale: Scale) -> Profile {
+    let capacity = widest_capacity(scale).div_ceil(2);
+    let halved = Profile { margin: 0, zeroing: 0, scale, capacity, ..Profile::a() };
+    let margin = largest(capacity, |margin| !Profile { margin, ..halved.clone() }.is_refused(None));
+    Profile { margin, ..halved }
 }
 
 fn ends(profile: &Profile) -> Vec<String> {
@@ -76,6 +90,61 @@ fn typed_around(profile: Profile) -> Vec<String> {
             lines.push(format!("> TA {} {}", number_text(number, decimals, false), unit.name()));
         }
     }
+    lines
+}
+
+// Send on change.
+
+/// Numbers around half a microgram and around the capacity with every count of decimals, in one unit.
+fn threshold_limits(unit: Unit) -> Script {
+    let scale = Scale { unit, decimals: 2, step: 1 };
+    let capacities = [1, 2, 999, 99_999_999];
+    script(
+        capacities
+            .into_iter()
+            .flat_map(|capacity| thresholds_around(Profile { capacity, margin: 0, zeroing: 0, scale, ..Profile::a() })),
+    )
+}
+
+fn thresholds_around(profile: Profile) -> Vec<String> {
+    let unit = profile.scale.unit;
+    let mut lines = vec![text_of(profile_line(&profile)), "on".to_string()];
+    for decimals in 0..8u8 {
+        let places = |micrograms: i128| micrograms * 500 * ten_to(decimals.into()) / unit.nanograms();
+        let (half, most) = (places(1), places(2 * i128::from(profile.capacity) + 1));
+        for number in ((half - 1).max(0)..=half + 2).chain((most - 1).max(0)..=most + 2) {
+            lines.push(format!("> SR {} {}", number_text(number, decimals, false), unit.name()));
+            lines.push("> @".to_string());
+        }
+    }
+    lines
+}
+
+/// SR from last nets of every size and both signs, where the eighth and the 30 steps meet among them, and samples at both sides of its
+/// threshold: one step of a microgram short of it, then at it.
+fn changes(scale: Scale) -> Option<Script> {
+    let profile = widest_margin(scale);
+    if profile.is_refused(None) {
+        return None;
+    }
+    let meet = 8 * least_change(0, None, scale);
+    let nets = [0, 1, meet - 8, meet - 7, meet - 1, meet, meet + 1, meet + 8, i128::from(profile.capacity) / 9 * 8];
+    let on = [text_of(profile_line(&profile)), "on".to_string()];
+    let both = nets.into_iter().flat_map(|net| [net, -net]);
+    Some(script(on.into_iter().chain(both.flat_map(|net| changes_from(net, scale)))))
+}
+
+fn changes_from(last: i128, scale: Scale) -> Vec<String> {
+    let least = least_change(last, None, scale);
+    let load = |mark: &str, net: i128| format!("{mark} {}", net.clamp(i32::MIN.into(), i32::MAX.into()));
+    let mut lines = vec![load("s", last), "> SR".to_string()];
+    for short in [1 - least, least - 1] {
+        lines.extend([load("u", last + short), load("s", last + short)]);
+    }
+    for moved in [-least, least] {
+        lines.extend([load("u", last + moved), load("s", last)]);
+    }
+    lines.push(load("s", last + least));
     lines
 }
 
@@ -153,9 +222,10 @@ fn faults() -> Script {
 
 // Waiting, rooms, repetition.
 
-/// S, T and Z with 0 to W + 1 unstable samples before a stable one, and W drawn in meanwhile.
+/// S, T, Z and SR with 0 to W + 1 unstable samples before a stable one, and W drawn in meanwhile.
 fn patience() -> Script {
-    let waits = (1..5).flat_map(|w| ["S", "T", "Z"].into_iter().flat_map(move |name| (0..w + 2).map(move |n| wait(w, name, n))));
+    let names = ["S", "T", "Z", "SR", "SR 1 g"];
+    let waits = (1..5).flat_map(|w| names.into_iter().flat_map(move |name| (0..w + 2).map(move |n| wait(w, name, n))));
     script(waits.flatten())
 }
 
@@ -171,40 +241,49 @@ fn wait(w: u32, name: &str, samples: u32) -> Vec<String> {
 /// Every command in every room that is one off its answer, or near it.
 fn rooms() -> Script {
     let sized = COMMANDS.iter().flat_map(|(name, _)| {
-        let rooms = if *name == "I0" { 229..234 } else { 0..24 };
+        let rooms = if *name == "I0" { 242..247 } else { 0..24 };
         rooms.flat_map(move |room| [format!("room {room}"), format!("> {name}"), "room 256".to_string(), "b 0A".to_string()])
     });
     script(["s 1000".to_string()].into_iter().chain(sized))
 }
 
-/// What each command does to a running repetition, with nothing waiting and with T waiting.
+/// What each command and some refused lines do to a running SIR and SR, with nothing waiting and with T waiting.
 fn repetition() -> Script {
-    let lines = COMMANDS.iter().flat_map(|(name, _)| {
+    let names = COMMANDS.iter().map(|(name, _)| *name);
+    let lines = names.chain(["SR 0.02 g", "SR 0 g", "SR ", "SI 1", "SIR 1", "Q"]);
+    script(lines.flat_map(|line| {
         ["s 100", "u 300000000", "u -300000000"].into_iter().flat_map(move |first| {
-            [
-                "on".to_string(),
-                first.to_string(),
-                "> SIR".to_string(),
-                format!("> {name}"),
-                "u 200".to_string(),
-                "s 300".to_string(),
-                "u 400".to_string(),
-                "> T".to_string(),
-                format!("> {name}"),
-                "u 500".to_string(),
-                "s 600".to_string(),
-                "s 700".to_string(),
-            ]
+            ["SIR", "SR", "SR 0.01 g"].into_iter().flat_map(move |start| repeated_then(first, start, line))
         })
-    });
-    script(lines)
+    }))
+}
+
+fn repeated_then(first: &str, start: &str, line: &str) -> Vec<String> {
+    let (start, line) = (format!("> {start}"), format!("> {line}"));
+    let lines: [&str; 14] = [
+        "on",
+        first,
+        &start,
+        &line,
+        "u 20000",
+        "s 30000",
+        "u 40000",
+        "> T",
+        &line,
+        "u 50000",
+        "s 60000",
+        "s 70000",
+        "u 300000000",
+        "s 90000",
+    ];
+    lines.map(String::from).to_vec()
 }
 
 /// What each line leaves of what is shown: obeyed, refused for want of room, with more after its name, faulty, with T waiting, and
 /// without a sample.
 fn display() -> Script {
     let names = COMMANDS.iter().map(|(name, _)| *name);
-    let others = ["D \"\"", "D \"ABC\"", "D \"123456789012345678901\"", "D \"", "TA 1 g", "TA 1 kg", "Q", ""];
+    let others = ["D \"\"", "D \"ABC\"", "D \"123456789012345678901\"", "D \"", "TA 1 g", "TA 1 kg", "SR 1 g", "SR x", "Q", ""];
     let displays = ["DW", "D \"\"", "D \"TEXT 1\""];
     script(names.chain(others).flat_map(|line| displays.into_iter().flat_map(move |display| shown_then(display, line))))
 }
@@ -227,13 +306,15 @@ fn shown_then(display: &str, line: &str) -> Vec<String> {
 
 // Captures.
 
-const GOOD: [&[u8]; 10] = [
+const GOOD: [&[u8]; 12] = [
     b"S S    14.2561 g\r\n",
     b"S D -0.000001 ozt\r\n",
     b"TA A          0 GN\r\n",
     b"TI D    100.50 dwt\r\n",
     b"Z A\r\n",
     b"TAC I\r\n",
+    b"S L\r\n",
+    b"I0 B 1 \"SR\"\r\n",
     b"ET\r\n",
     b"I0 B 1 \"TAC\"\r\n",
     b"I1 A \"0\" \"2.30\" \"2.20\"\r\n",

@@ -1,10 +1,10 @@
 //! The tally of demand 3. It reads calls and answers alone, never the state, and judges every weight in them.
 
 use crate::profile::Profile;
-use crate::weight::{ten_to, typed_number};
+use crate::weight::{ten_to, typed_number, Scale};
 
 /// Femtograms in a microgram.
-const MICROGRAM: i128 = 1_000_000_000;
+pub const MICROGRAM: i128 = 1_000_000_000;
 
 #[derive(Clone, Copy, Debug, PartialEq, Eq)]
 pub enum Call {
@@ -32,15 +32,27 @@ impl Tally {
         if refusal != 0 {
             return Ok(());
         }
+        self.follow(call, answer)?;
+        self.compare(answer)
+    }
+
+    /// Line, load, zero and tare after a call that is not refused; gives the line that it ended, without its CR LF.
+    pub fn follow(&mut self, call: Call, answer: &[u8]) -> Result<Option<Vec<(u8, bool)>>, String> {
         let ended = self.join(call);
         if ended.as_deref() == Some(&[(b'@', true)]) {
             self.set_tare(0, false);
         }
         self.grant(answer, ended.as_deref())?;
-        self.compare(answer)
+        Ok(ended)
     }
 
-    /// The line that this call ended, without its CR LF.
+    /// Gross and net of the latest load, to the microgram as the module keeps them: a typed tare is rounded to it, a tie upwards.
+    pub fn gross_and_net(&self) -> Option<(i128, i128)> {
+        let gross = self.load? - self.zero;
+        let tare = (2 * self.tare + MICROGRAM) / (2 * MICROGRAM) * MICROGRAM;
+        Some((gross, gross - tare))
+    }
+
     fn join(&mut self, call: Call) -> Option<Vec<(u8, bool)>> {
         match call {
             Call::Sample { load, .. } => {
@@ -104,9 +116,7 @@ impl Tally {
             return Ok(());
         };
         let number = self.told(answer).ok_or("a weight answer without a number")?;
-        let scale = self.profile.scale;
-        let step = i128::from(scale.step) * scale.unit.nanograms() * ten_to(6 - u32::from(scale.decimals));
-        let allowed = step + if self.typed { MICROGRAM } else { 0 };
+        let allowed = display_step(self.profile.scale) + if self.typed { MICROGRAM } else { 0 };
         if 2 * (number - exact).abs() > allowed {
             return Err(format!("{number} fg told, {exact} fg exact, twice the difference may be {allowed}"));
         }
@@ -125,6 +135,11 @@ impl Tally {
         let (digits, decimals) = typed_number(size, None)?;
         Some(sign * digits * ten_to(6 - decimals) * self.profile.scale.unit.nanograms())
     }
+}
+
+/// k x unit / (1,000 x 10^d), in femtograms.
+pub fn display_step(scale: Scale) -> i128 {
+    i128::from(scale.step) * scale.unit.nanograms() * ten_to(6 - u32::from(scale.decimals))
 }
 
 fn begins(answer: &[u8], beginnings: &[&str]) -> bool {

@@ -89,15 +89,15 @@ fn compare_replay(path: &Path, seed: u64, calls: usize) {
     ));
 }
 
-/// Fails with the shortest script in which the tally finds a wrong weight.
+/// Fails with the shortest script in which the tally finds a wrong weight, or the follower of SR a wrong answer to a sample.
 fn assert_judged(judge: &Judge, scripts: &[Script]) {
-    let Some(fault) = judge.faults.first() else { return };
+    let Some(fault) = judge.faults.iter().chain(&judge.strays).next() else { return };
     let found = shortest(&scripts.concat(), &mut |lines| {
         let mut judge = Judge::default();
         replay_with(Module::default(), &script_bytes(lines), &mut |event| judge.see(event));
-        !judge.faults.is_empty()
+        !judge.faults.is_empty() || !judge.strays.is_empty()
     });
-    panic!("the tally finds a wrong weight: {fault}\n{}", shown(&script_bytes(&found)));
+    panic!("the tally or the follower finds a fault: {fault}\n{}", shown(&script_bytes(&found)));
 }
 
 #[test]

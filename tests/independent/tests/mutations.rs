@@ -10,7 +10,7 @@ use independent::replay::{replay, replay_with, Replay};
 
 const SEED: u64 = 1;
 const SCRIPTS: usize = 400;
-/// The tally sees a unit that is a little short only beside a tie, so it gets more.
+/// The tally sees a unit that is a little short only beside a tie, and the follower of SR sees no `state`, so they get more.
 const JUDGED_SCRIPTS: usize = 1_600;
 const SILENT_SCRIPTS: usize = 100;
 const CAPTURES: usize = 200;
@@ -34,6 +34,64 @@ const JUDGED: &[Fault] = &[
     Fault::FirstSampleKept,
     Fault::TypedRoundedToStep,
     Fault::QueryClearsTare,
+];
+
+/// Faults of send on change that answers show, so that its follower alone has to notice them. A net that is kept at `S D` is none: the
+/// `S S` owed comes before it could count.
+const FOLLOWED: &[Fault] = &[
+    Fault::SrOwnIdentification,
+    Fault::SrNeedsSample,
+    Fault::SrAnswersUnstable,
+    Fault::SrStartedByOverload,
+    Fault::SrStartedByTimeout,
+    Fault::SrOutlivesS,
+    Fault::SrOutlivesSi,
+    Fault::SrOutlivesSir,
+    Fault::SrOutlivesSr,
+    Fault::SrOutlivesReset,
+    Fault::SirOutlivesSr,
+    Fault::SirKeptBySr,
+    Fault::BusySrEndsOld,
+    Fault::WrongSrEndsOld,
+    Fault::LogicalSiEndsSr,
+    Fault::SrRebasedByTaring,
+    Fault::SrRebasedByTypedTare,
+    Fault::SrRebasedByZeroing,
+    Fault::PrintedNetKept,
+    Fault::FirstNetForgotten,
+    Fault::OwedDroppedWhenBack,
+    Fault::OwedWaitsForChange,
+    Fault::OwedLostInExcursion,
+    Fault::NewSrKeepsOwed,
+    Fault::SecondDynamicSent,
+    Fault::StableHeldBack,
+    Fault::OutOfRangeRepeated,
+    Fault::OutOfRangeUnsent,
+    Fault::UnstableOutUnsent,
+    Fault::OtherSideSentToo,
+    Fault::SilentSampleStaysOut,
+    Fault::BackInRangeSent,
+    Fault::ExcursionEndsSr,
+    Fault::WaitingSampleMovesSr,
+    Fault::SrSentWhileWaiting,
+    Fault::SentThoughRefused,
+    Fault::SetThresholdExclusive,
+    Fault::EighthExclusive,
+    Fault::StepsExclusive,
+    Fault::EighthForgotten,
+    Fault::StepsForgotten,
+    Fault::EighthRoundedDown,
+    Fault::StepsRoundedDown,
+    Fault::EighthOfPresentNet,
+    Fault::ThirtyLastPlaces,
+    Fault::ChangeBySize,
+    Fault::PrintedChangeCompared,
+    Fault::SetThresholdHasLeast,
+    Fault::ThresholdFixedAtStart,
+    Fault::ThresholdKeptFromOlder,
+    Fault::ThresholdOfZeroTaken,
+    Fault::ThresholdAboveCapacityTaken,
+    Fault::LoneSpaceTaken,
 ];
 
 /// Faults that no answer shows, so that `state` alone has to.
@@ -164,18 +222,28 @@ fn a_difference_is_shown_by_a_short_script() {
     }
 }
 
+fn judged(fault: Option<Fault>, input: &[u8]) -> Judge {
+    let mut judge = Judge::default();
+    replay_with(Module { fault }, input, &mut |event| judge.see(event));
+    judge
+}
+
 #[test]
 fn the_tally_notices_wrong_weights() {
     let inputs: Vec<Vec<u8>> = scripts(JUDGED_SCRIPTS).iter().map(|one| without_state(one)).collect();
-    let judged = |fault, input: &[u8]| {
-        let mut judge = Judge::default();
-        replay_with(Module { fault }, input, &mut |event| judge.see(event));
-        judge.faults
-    };
     for input in &inputs {
-        assert_eq!(judged(None, input), Vec::<String>::new());
+        let judge = judged(None, input);
+        assert_eq!((judge.faults, judge.strays), (vec![], vec![]), "{}", shown(input));
     }
     for &fault in JUDGED {
-        assert!(inputs.iter().any(|input| !judged(Some(fault), input).is_empty()), "{fault:?}");
+        assert!(inputs.iter().any(|input| !judged(Some(fault), input).faults.is_empty()), "{fault:?}");
     }
+}
+
+#[test]
+fn the_follower_notices_what_sr_should_not_send() {
+    let inputs: Vec<Vec<u8>> = scripts(JUDGED_SCRIPTS).iter().map(|one| without_state(one)).collect();
+    let noticed = |fault| inputs.iter().any(|input| !judged(Some(fault), input).strays.is_empty());
+    let unnoticed: Vec<Fault> = FOLLOWED.iter().copied().filter(|fault| !noticed(*fault)).collect();
+    assert!(unnoticed.is_empty(), "not noticed: {unnoticed:?}");
 }

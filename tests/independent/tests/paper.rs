@@ -3,10 +3,12 @@
 use independent::cases;
 use independent::compare::shown;
 use independent::decode::decode;
-use independent::module::{Line, Module, Outcome, Sample, State, Wait};
+use independent::module::{Line, Module, Outcome, Repetition, Sample, State, Wait};
+use independent::on_change::OnChange;
 use independent::profile::Profile;
 use independent::reader::{line_of, write, Answer, Reader};
 use independent::replay::replay;
+use independent::sent_on_change::Follower;
 use independent::tally::{Call, Tally};
 use independent::weight::{printed, Scale, Unit};
 
@@ -21,9 +23,9 @@ fn bench_cases_and_worked_examples() {
 }
 
 #[test]
-fn the_list_has_231_bytes() {
+fn the_list_has_244_bytes() {
     let told = replay(b"on\n> I0\n");
-    assert_eq!(told.len(), 231 + b"I4 A \"VA-0001\"\r\n".len());
+    assert_eq!(told.len(), 244 + b"I4 A \"VA-0001\"\r\n".len());
 }
 
 #[test]
@@ -99,6 +101,20 @@ fn the_words_of_the_state() {
         (&["> Z", "u 5", "u -6"], "zero 0 tare 0 sample u -6 waits Z 2 repeats no shows weight line 0"),
         (&["> Z", "u 5", "u 6", "u 7"], "zero 0 tare 0 sample u 7 waits none repeats no shows weight line 0"),
         (&["u 5", "> SIR", "> T"], "zero 0 tare 0 sample u 5 waits T 0 repeats SIR shows weight line 0"),
+        (&["> SR"], "zero 0 tare 0 sample none waits SR 0 - repeats no shows weight line 0"),
+        (
+            &["s 5", "> SIR", "u 6", "> SR 1 g", "u 7"],
+            "zero 0 tare 0 sample u 7 waits SR 1 1000000 repeats no shows weight line 0",
+        ),
+        (&["s 5", "> SR"], "zero 0 tare 0 sample s 5 waits none repeats SR 5 - shows weight line 0"),
+        (&["s -5", "> SR 2 g"], "zero 0 tare 0 sample s -5 waits none repeats SR -5 2000000 shows weight line 0"),
+        (&["s 5", "> SR", "u 3005"], "zero 0 tare 0 sample u 3005 waits none repeats SR 5 - owed shows weight line 0"),
+        (&["s 5", "> SR", "u 999999999"], "zero 0 tare 0 sample u 999999999 waits none repeats SR 5 - out shows weight line 0"),
+        (
+            &["s 5", "> SR 1 g", "u 3000000", "s -1000001", "> D \"A\""],
+            "zero 0 tare 0 sample s -1000001 waits none repeats SR 5 1000000 owed out shows \"A\" line 0",
+        ),
+        (&["s 5", "> SR", "u 4000", "> Z", "u 0"], "zero 0 tare 0 sample u 0 waits Z 1 repeats SR 5 - owed shows weight line 0"),
         (&["> D \"HALLO 1\""], "zero 0 tare 0 sample none waits none repeats no shows \"HALLO 1\" line 0"),
         (&["> D \"\""], "zero 0 tare 0 sample none waits none repeats no shows \"\" line 0"),
         (&["b 44 20 22 80 FF 20 22 0D 0A"], "zero 0 tare 0 sample none waits none repeats no shows \"\\x80\\xff \" line 0"),
@@ -138,9 +154,8 @@ fn refusal_of(profile: &Profile, state: &State) -> u8 {
 
 #[test]
 fn constructed_states() {
-    let a = Profile::a();
     let fine = State { latest: Some(Sample { load: 1, stable: false }), ..State::default() };
-    let wait = |unstable| Some(Wait { name: "S", unstable });
+    let wait = |unstable| Some(Wait { name: "S", unstable, threshold: None });
     let line = |length| Line { bytes: vec![b'S'; length], ..Line::default() };
     let cases = [
         (0, fine.clone()),
@@ -159,19 +174,62 @@ fn constructed_states() {
         (2, State { shown: Some(vec![31]), ..fine.clone() }),
         (0, State { waiting: wait(2), ..fine.clone() }),
         (2, State { waiting: wait(3), ..fine.clone() }),
-        (0, State { repeating: true, ..fine.clone() }),
-        (2, State { repeating: true, latest: None, ..fine.clone() }),
+        (0, State { repetition: Repetition::Sir, ..fine.clone() }),
+        (2, State { repetition: Repetition::Sir, latest: None, ..fine.clone() }),
     ];
+    refused_as_said(&cases);
+}
+
+/// Each state has the refusal beside it, and 1 where the profile is refused as well.
+fn refused_as_said(cases: &[(u8, State)]) {
+    let a = Profile::a();
     for (refusal, state) in cases {
-        assert_eq!(refusal_of(&a, &state), refusal, "{state:?}");
+        assert_eq!(refusal_of(&a, state), *refusal, "{state:?}");
         let bad = Profile { patience: 0, ..Profile::a() };
-        assert_eq!(refusal_of(&bad, &state), 1, "{state:?}");
+        assert_eq!(refusal_of(&bad, state), 1, "{state:?}");
     }
+}
+
+/// Document 02, No. 1. SR running beside SIR is no case: `Repetition` is one of three, so no such state can be built. Nor does an SR
+/// that is off leave anything behind.
+#[test]
+fn constructed_states_of_sr() {
+    let fine = State { latest: Some(Sample { load: 1, stable: false }), ..State::default() };
+    let runs = |last, threshold| Repetition::Sr(OnChange { last, threshold, owed: true, out: true });
+    let running = |last, threshold| State { repetition: runs(last, threshold), ..fine.clone() };
+    let waiting = |threshold| State { waiting: Some(Wait { name: "SR", unstable: 2, threshold }), ..fine.clone() };
+    refused_as_said(&[
+        (0, running(0, None)),
+        (2, State { latest: None, ..running(0, None) }),
+        // The last net, from -(U+C) to C.
+        (0, running(220_000_000, None)),
+        (2, running(220_000_001, None)),
+        (0, running(-221_000_000, None)),
+        (2, running(-221_000_001, None)),
+        (2, running(i64::MAX, None)),
+        (2, running(i64::MIN, None)),
+        // A set threshold, from 1 to C.
+        (0, running(0, Some(1))),
+        (2, running(0, Some(0))),
+        (2, running(0, Some(-1))),
+        (0, running(0, Some(220_000_000))),
+        (2, running(0, Some(220_000_001))),
+        // The same of a waiting SR, which needs no sample.
+        (0, waiting(None)),
+        (0, State { latest: None, ..waiting(None) }),
+        (0, waiting(Some(1))),
+        (2, waiting(Some(0))),
+        (2, waiting(Some(-1))),
+        (0, waiting(Some(220_000_000))),
+        (2, waiting(Some(220_000_001))),
+        (2, State { latest: None, ..waiting(Some(0)) }),
+        (2, State { waiting: Some(Wait { name: "SR", unstable: 3, threshold: None }), ..fine.clone() }),
+    ]);
 }
 
 #[test]
 fn power_on_reads_no_state() {
-    let bad = State { zero: i64::MAX, tare: -5, repeating: true, ..State::default() };
+    let bad = State { zero: i64::MAX, tare: -5, repetition: Repetition::Sir, ..State::default() };
     let mut state = bad.clone();
     let mut buffer = [7; 20];
     assert_eq!(MODULE.power_on(&Profile::a(), &mut state, &mut buffer[..15]), Outcome { refusal: 3, n: 0 });
@@ -262,6 +320,141 @@ fn the_tally_follows_zero_and_tare() {
     assert!(tallied(&[("70000", ""), ("T", "T S     0.0700 g"), ("@", "I4 A \"\""), ("S", "S S     0.0000 g")]).is_err());
 }
 
+// The follower of SR.
+
+/// Feeds lines and samples (`s` or `u` and a load), with the answer to the last byte or sample of each; "" is none.
+fn followed(history: &[(&str, &str)]) -> Result<(), String> {
+    let mut follower = Follower::new(&Profile::a());
+    for (line, answer) in history {
+        let ended = if answer.is_empty() { String::new() } else { format!("{answer}\r\n") };
+        if let Some((mark @ ("s" | "u"), load)) = line.split_once(' ') {
+            let load = load.parse().expect("a load");
+            follower.take(Call::Sample { load, stable: mark == "s" }, 0, ended.as_bytes())?;
+            continue;
+        }
+        for byte in format!("{line}\r").bytes() {
+            follower.take(Call::Byte { byte, good: true }, 0, b"")?;
+        }
+        follower.take(Call::Byte { byte: b'\n', good: true }, 0, ended.as_bytes())?;
+    }
+    Ok(())
+}
+
+/// A history is followed, and is rejected with its last answer changed to any other.
+fn only_last_answer(history: &[(&str, &str)], others: &[&str]) {
+    assert_eq!(followed(history), Ok(()), "{history:?}");
+    let (last, before) = history.split_last().expect("a call");
+    for other in others {
+        let changed = [before, &[(last.0, *other)]].concat();
+        assert!(followed(&changed).is_err(), "{changed:?}");
+    }
+}
+
+const STARTED: [(&str, &str); 2] = [("s 0", ""), ("SR", ZERO)];
+const ZERO: &str = "S S     0.0000 g";
+/// The third unstable sample ends a wait.
+const TIMEOUT: [(&str, &str); 3] = [("u 1", ""), ("u 2", ""), ("u 3", "S I")];
+
+/// After `s 0` and `SR`: the calls with their answers, the last of which must be what it is.
+fn only_last_when_started(calls: &[(&str, &str)], others: &[&str]) {
+    only_last_answer(&[&STARTED, calls].concat(), others);
+}
+
+#[test]
+fn the_follower_knows_what_sr_sends() {
+    // Moved by the threshold, or less.
+    only_last_when_started(&[("s 2999", "")], &["S S     0.0030 g", "S D     0.0030 g"]);
+    only_last_when_started(&[("s 3000", "S S     0.0030 g")], &["", "S D     0.0030 g", "S +"]);
+    only_last_when_started(&[("u -3000", "S D    -0.0030 g")], &["", "S S    -0.0030 g"]);
+    // One S D, then the S S owed, even if net came back.
+    only_last_when_started(&[("u 5000", "S D     0.0050 g"), ("u 90000", "")], &["S D     0.0900 g"]);
+    only_last_when_started(&[("u 5000", "S D     0.0050 g"), ("u 0", ""), ("s 0", ZERO)], &[""]);
+    only_last_when_started(&[("u 5000", "S D     0.0050 g"), ("s 0", ZERO), ("s 0", "")], &[ZERO]);
+    // One + or - an excursion; what is owed stays owed.
+    only_last_when_started(&[("u 220000001", "S +")], &["", "S -", "S D   220.0000 g"]);
+    only_last_when_started(&[("s 220000001", "S +"), ("s 220000001", "")], &["S +"]);
+    only_last_when_started(&[("s 220000001", "S +"), ("s -1000001", "")], &["S -"]);
+    only_last_when_started(&[("s 220000001", "S +"), ("u 1", ""), ("s -1000001", "S -")], &["", "S +"]);
+    only_last_when_started(&[("s 220000001", "S +"), ("s 2999", "")], &["S S     0.0030 g"]);
+    only_last_when_started(&[("u 5000", "S D     0.0050 g"), ("s -1000001", "S -"), ("s 0", ZERO)], &[""]);
+    // The last net is that of the last S S.
+    only_last_when_started(&[("s 80000", "S S     0.0800 g"), ("s 70001", "")], &["S S     0.0700 g"]);
+    only_last_when_started(&[("s 80000", "S S     0.0800 g"), ("s 70000", "S S     0.0700 g")], &[""]);
+    only_last_when_started(&[("s 3049", "S S     0.0030 g"), ("s 6000", "")], &["S S     0.0060 g"]);
+}
+
+#[test]
+fn the_follower_knows_whether_sr_runs() {
+    // Started by a weight alone.
+    only_last_answer(&[("s 220000001", ""), ("SR", "S +"), ("s 0", "")], &[ZERO]);
+    only_last_answer(&[&[("SR", "")], &TIMEOUT[..]].concat(), &["", "SR I", "S D     0.0000 g"]);
+    only_last_answer(&[&[("SR", "")], &TIMEOUT[..], &[("s 90000", "")]].concat(), &["S S     0.0900 g"]);
+    only_last_answer(&[("SR", ""), ("u 1", ""), ("s 90000", "S S     0.0900 g")], &["", "S D     0.0900 g", "S I", "S +"]);
+    only_last_answer(&[("SR", "")], &["S I", "S L", ZERO]);
+    only_last_answer(&[("s 0", ""), ("SR", ZERO)], &["", "S I", "S D     0.0000 g", "SR I"]);
+    // Ended at order 8 by S, SI, SIR and SR, and by @.
+    for line in ["S", "SI"] {
+        only_last_when_started(&[(line, ZERO), ("s 90000", "")], &["S S     0.0900 g"]);
+    }
+    only_last_when_started(&[("SIR", ZERO), ("s 1", ZERO)], &[""]);
+    only_last_when_started(&[("@", "I4 A \"\""), ("s 90000", "")], &["S S     0.0900 g"]);
+    let times_out = [&[("u 0", ""), ("SR", "")], &TIMEOUT[..]].concat();
+    only_last_when_started(&[&times_out[..], &[("s 90000", "")]].concat(), &["S S     0.0900 g"]);
+    let repeated = [("s 0", ""), ("SIR", ZERO), ("u 0", "S D     0.0000 g"), ("SR", "")];
+    only_last_answer(&[&repeated[..], &TIMEOUT[..], &[("u 4", "")]].concat(), &["S D     0.0000 g"]);
+    // Not by what fails before order 8.
+    for (line, answer) in [("SI 1", "EL"), ("SR x", "S L"), ("SR 0 g", "S L"), ("SR ", "S L"), ("SRX", "ES")] {
+        only_last_when_started(&[(line, answer), ("s 3000", "S S     0.0030 g")], &[""]);
+    }
+    only_last_when_started(
+        &[("u 1", ""), ("T", ""), ("SI", "S I"), ("SR", "S I"), ("s 3000", "T S     0.0030 g"), ("s 6000", "S S     0.0030 g")],
+        &[""],
+    );
+    // Dropped by @, a waiting SR does not start.
+    only_last_answer(&[("SR", ""), ("@", "I4 A \"\""), ("s 90000", "")], &["S S     0.0900 g"]);
+}
+
+#[test]
+fn the_follower_passes_over_samples_of_a_wait() {
+    let waits = [("u 1", ""), ("T", "")];
+    only_last_when_started(&[&waits[..], &[("u 220000001", "")]].concat(), &["S +"]);
+    let above = [("u 220000001", ""), ("u 220000001", ""), ("u 220000001", "T I"), ("u 220000001", "S +")];
+    only_last_when_started(&[&waits[..], &above[..3]].concat(), &["", "S +", "S I"]);
+    only_last_when_started(&[&waits[..], &above[..]].concat(), &["", "T I"]);
+    only_last_when_started(&[&waits[..], &[("s 9000", "T S     0.0090 g"), ("s 9000", "")]].concat(), &[ZERO]);
+    only_last_when_started(&[&waits[..], &[("s 9000", "T S     0.0090 g")]].concat(), &["", "S S     0.0090 g"]);
+}
+
+#[test]
+fn the_follower_reads_thresholds_and_tares() {
+    let set = |line| [("s 0", ""), (line, ZERO)];
+    only_last_answer(&[&set("SR 0.000001 g")[..], &[("s 1", ZERO)]].concat(), &[""]);
+    only_last_answer(&[&set("SR 1 g")[..], &[("s 999999", "")]].concat(), &["S S     1.0000 g"]);
+    only_last_answer(&[&set("SR 220 g")[..], &[("s 220000000", "S S   220.0000 g")]].concat(), &[""]);
+    for line in ["SR 0 g", "SR 220.000001 g", "SR 1", "SR 1 G", "SR  1 g", "SR 1. g", "SR "] {
+        only_last_answer(&[("s 0", ""), (line, "S L")], &["", ZERO, "S I", "SR L"]);
+    }
+    // A new SR keeps nothing of the older one.
+    only_last_answer(&[&set("SR 1 g")[..], &[("SR", ZERO), ("s 3000", "S S     0.0030 g")]].concat(), &[""]);
+    // No zeroing and no taring moves the last net; a typed tare counts to the microgram.
+    only_last_when_started(&[("s 2000", ""), ("Z", "Z A"), ("s 4999", "")], &["S S     0.0030 g"]);
+    only_last_when_started(&[("s 2000", ""), ("ZI", "ZI S"), ("s 5000", "S S     0.0030 g")], &[""]);
+    only_last_when_started(&[("s 2999", ""), ("TI", "TI S     0.0030 g"), ("s 0", "")], &["S S    -0.0030 g"]);
+    only_last_when_started(&[("TA 0.003 g", "TA A     0.0030 g"), ("s 0", "S S    -0.0030 g")], &[""]);
+    only_last_when_started(&[("TA 0.002999 g", "TA A     0.0030 g"), ("s 0", "")], &["S S    -0.0030 g"]);
+    only_last_when_started(&[("TA 1 g", "TA A     1.0000 g"), ("TAC", "TAC A"), ("s 0", "")], &["S S    -1.0000 g"]);
+}
+
+/// A refused call changes nothing, and a byte that ends no line is not answered.
+#[test]
+fn the_follower_passes_over_refused_calls() {
+    let mut follower = Follower::new(&Profile::a());
+    let mut sample = |load, refusal, answer: &[u8]| follower.take(Call::Sample { load, stable: true }, refusal, answer);
+    assert_eq!(sample(1, 2, b""), Ok(()));
+    assert!(sample(1, 0, b"S S     0.0000 g\r\n").is_err());
+    assert!(follower.take(Call::Byte { byte: b'S', good: true }, 0, b"S I\r\n").is_err());
+}
+
 // The reader and the writer.
 
 #[test]
@@ -298,6 +491,11 @@ fn the_writer_refuses_what_has_no_line() {
     assert_eq!(refusal(weight("S", 'S', 100_000_000, 6)), 3);
     assert_eq!(refusal(Answer::Status { identification: "@".to_string(), status: 'I' }), 4);
     assert_eq!(refusal(Answer::Status { identification: "TAC".to_string(), status: 'I' }), 0);
+    assert_eq!(refusal(Answer::Status { identification: "S".to_string(), status: 'L' }), 0);
+    assert_eq!(refusal(Answer::Status { identification: "SR".to_string(), status: 'L' }), 4);
+    assert_eq!(refusal(Answer::Status { identification: "SR".to_string(), status: 'I' }), 4);
+    assert_eq!(refusal(Answer::Listed { status: 'B', level: 1, name: "SR".to_string() }), 0);
+    assert_eq!(refusal(Answer::Listed { status: 'B', level: 0, name: "SR".to_string() }), 4);
     assert_eq!(refusal(Answer::Error { letters: "EI".to_string() }), 4);
     assert_eq!(refusal(Answer::Listed { status: 'A', level: 1, name: "S".to_string() }), 4);
     assert_eq!(refusal(Answer::Text { identification: "I4".to_string(), text: vec![b'x'; 21] }), 4);

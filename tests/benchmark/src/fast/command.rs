@@ -17,6 +17,7 @@ pub enum Command {
     Reset,
     D,
     Dw,
+    Sr,
     T,
     Ta,
     Tac,
@@ -26,12 +27,12 @@ pub enum Command {
 use Command::*;
 
 /// In the order in which I0 lists them.
-pub const COMMANDS: [Command; 18] = [I0, I1, I2, I3, I4, I5, S, Si, Sir, Z, Zi, Reset, D, Dw, T, Ta, Tac, Ti];
+pub const COMMANDS: [Command; 19] = [I0, I1, I2, I3, I4, I5, S, Si, Sir, Z, Zi, Reset, D, Dw, Sr, T, Ta, Tac, Ti];
 
 /// All that I0 sends.
-pub const LIST: &[u8; 231] = b"I0 B 0 \"I0\"\r\nI0 B 0 \"I1\"\r\nI0 B 0 \"I2\"\r\nI0 B 0 \"I3\"\r\nI0 B 0 \"I4\"\r\nI0 B 0 \"I5\"\r\n\
+pub const LIST: &[u8; 244] = b"I0 B 0 \"I0\"\r\nI0 B 0 \"I1\"\r\nI0 B 0 \"I2\"\r\nI0 B 0 \"I3\"\r\nI0 B 0 \"I4\"\r\nI0 B 0 \"I5\"\r\n\
 I0 B 0 \"S\"\r\nI0 B 0 \"SI\"\r\nI0 B 0 \"SIR\"\r\nI0 B 0 \"Z\"\r\nI0 B 0 \"ZI\"\r\nI0 B 0 \"@\"\r\nI0 B 1 \"D\"\r\nI0 B 1 \"DW\"\r\n\
-I0 B 1 \"T\"\r\nI0 B 1 \"TA\"\r\nI0 B 1 \"TAC\"\r\nI0 A 1 \"TI\"\r\n";
+I0 B 1 \"SR\"\r\nI0 B 1 \"T\"\r\nI0 B 1 \"TA\"\r\nI0 B 1 \"TAC\"\r\nI0 A 1 \"TI\"\r\n";
 
 pub const VERSIONS: &[u8; 24] = b"I1 A \"0\" \"2.30\" \"2.20\"\r\n";
 
@@ -52,6 +53,7 @@ impl Command {
             b"@" => Reset,
             b"D" => D,
             b"DW" => Dw,
+            b"SR" => Sr,
             b"T" => T,
             b"TA" => Ta,
             b"TAC" => Tac,
@@ -61,9 +63,9 @@ impl Command {
     }
 
     pub fn name(self) -> &'static [u8] {
-        const NAMES: [&[u8]; 18] = [
-            b"I0", b"I1", b"I2", b"I3", b"I4", b"I5", b"S", b"SI", b"SIR", b"Z", b"ZI", b"@", b"D", b"DW", b"T", b"TA", b"TAC",
-            b"TI",
+        const NAMES: [&[u8]; 19] = [
+            b"I0", b"I1", b"I2", b"I3", b"I4", b"I5", b"S", b"SI", b"SIR", b"Z", b"ZI", b"@", b"D", b"DW", b"SR", b"T", b"TA",
+            b"TAC", b"TI",
         ];
         NAMES[self as usize]
     }
@@ -72,9 +74,9 @@ impl Command {
         u8::from(self >= D)
     }
 
-    /// The name, but S for SI and SIR.
+    /// The name, but S for SI, SIR and SR.
     pub fn identification(self) -> Command {
-        if matches!(self, Si | Sir) {
+        if matches!(self, Si | Sir | Sr) {
             S
         } else {
             self
@@ -82,7 +84,7 @@ impl Command {
     }
 
     pub fn takes_parameters(self) -> bool {
-        matches!(self, D | Ta)
+        matches!(self, D | Ta | Sr)
     }
 
     pub fn needs_sample(self) -> bool {

@@ -55,6 +55,14 @@ impl Line {
     }
 }
 
+/// What samples that find no command waiting are sent for.
+#[derive(Clone, Copy, Debug, PartialEq, Eq)]
+pub enum Repeating {
+    Nothing,
+    Sir,
+    Sr,
+}
+
 /// What commands and samples change, save the shown text: small enough to be changed beside the state and put back.
 #[derive(Clone, Copy, Debug)]
 pub struct Weighing {
@@ -63,11 +71,19 @@ pub struct Weighing {
     pub load: i32,
     /// The unstable samples that came while a command waits.
     pub unstable: u32,
-    /// S, Z or T.
+    /// The last stable net that a running SR sent. What an SR that is off left here does not count.
+    pub last: i64,
+    /// The threshold that a running or waiting SR set; 0 for none.
+    pub threshold: u32,
+    /// A running SR owes an S S.
+    pub owed: bool,
+    /// A running SR sent + or -, and is not back in range.
+    pub out: bool,
+    /// S, Z, T or SR.
     pub waiting: Option<Command>,
     pub stable: bool,
     pub sampled: bool,
-    pub repeating: bool,
+    pub repeating: Repeating,
     /// The text is shown in place of the weight.
     pub text_shown: bool,
 }
@@ -99,10 +115,14 @@ impl State {
                 tare: 0,
                 load: 0,
                 unstable: 0,
+                last: 0,
+                threshold: 0,
+                owed: false,
+                out: false,
                 waiting: None,
                 stable: false,
                 sampled: false,
-                repeating: false,
+                repeating: Repeating::Nothing,
                 text_shown: false,
             },
             text: Text { bytes: [0; 20], len: 0 },
@@ -116,8 +136,16 @@ impl State {
             && (0..=i64::from(profile.capacity)).contains(&now.tare)
             && usize::from(self.line.len) <= LINE
             && (now.waiting.is_none() || now.unstable < profile.timeout)
-            && (!now.repeating || now.sampled)
+            && (now.repeating == Repeating::Nothing || now.sampled)
             && (!now.text_shown || self.text.is_allowed())
+            && (now.repeating != Repeating::Sr || now.is_change_allowed(profile))
+            && (now.waiting != Some(Command::Sr) || now.threshold <= profile.capacity)
+    }
+}
+
+impl Weighing {
+    fn is_change_allowed(&self, profile: &Profile) -> bool {
+        (profile.lowest_net()..=i64::from(profile.capacity)).contains(&self.last) && self.threshold <= profile.capacity
     }
 }
 
@@ -201,7 +229,7 @@ fn judge<'a>(profile: &Profile, line: &Line, text: &'a [u8], now: &mut Weighing,
     if command == Command::Reset {
         now.waiting = None;
         now.unstable = 0;
-        now.repeating = false;
+        now.repeating = Repeating::Nothing;
         now.tare = 0;
         now.text_shown = false;
         return Answer::Text(Command::I4);
@@ -212,7 +240,7 @@ fn judge<'a>(profile: &Profile, line: &Line, text: &'a [u8], now: &mut Weighing,
     run(profile, command, rest, now, shown)
 }
 
-/// The command's own rule, and the parameters of D and TA.
+/// The command's own rule, and the parameters of D, TA and SR.
 fn run<'a>(
     profile: &Profile,
     command: Command,
@@ -225,12 +253,18 @@ fn run<'a>(
         Command::I1 => Answer::Versions,
         Command::I2 | Command::I3 | Command::I4 | Command::I5 => Answer::Text(command),
         Command::S => {
-            now.repeating = false;
+            now.repeating = Repeating::Nothing;
             settle_or_wait(profile, Command::S, now)
+        }
+        Command::Sr => {
+            let Some(threshold) = threshold(profile, rest) else { return Answer::Plain(Command::S, Status::L) };
+            now.repeating = Repeating::Nothing;
+            now.threshold = threshold;
+            settle_or_wait(profile, Command::Sr, now)
         }
         Command::Z | Command::T => settle_or_wait(profile, command, now),
         Command::Si | Command::Sir => {
-            now.repeating = command == Command::Sir;
+            now.repeating = if command == Command::Sir { Repeating::Sir } else { Repeating::Nothing };
             reading(profile, now)
         }
         Command::Zi => zero(profile, Command::Zi, Status::of_stability(now.stable), now),
@@ -274,12 +308,21 @@ fn preset(profile: &Profile, rest: &[u8]) -> Option<i64> {
     (amount <= u64::from(profile.capacity)).then_some(amount as i64)
 }
 
+/// What the parameter of SR sets; 0 where there is none.
+fn threshold(profile: &Profile, rest: Option<&[u8]>) -> Option<u32> {
+    let Some(rest) = rest else { return Some(0) };
+    match preset(profile, rest)? {
+        0 => None,
+        amount => Some(amount as u32),
+    }
+}
+
 fn quoted(rest: &[u8]) -> Option<&[u8]> {
     let text = rest.strip_prefix(b"\"")?.strip_suffix(b"\"")?;
     (text.len() <= 20 && is_printable(text)).then_some(text)
 }
 
-/// S, Z or T on a stable latest sample; otherwise it waits.
+/// S, Z, T or SR on a stable latest sample; otherwise it waits.
 fn settle_or_wait(profile: &Profile, command: Command, now: &mut Weighing) -> Answer {
     if now.sampled && now.stable {
         return settle(profile, command, now);
@@ -293,8 +336,21 @@ fn settle(profile: &Profile, command: Command, now: &mut Weighing) -> Answer {
     match command {
         Command::Z => zero(profile, Command::Z, Status::A, now),
         Command::T => tare(profile, Command::T, now),
+        Command::Sr => start_on_change(profile, now),
         _ => reading(profile, now),
     }
+}
+
+/// The answer of S; a weight starts SR.
+fn start_on_change(profile: &Profile, now: &mut Weighing) -> Answer {
+    let answer = reading(profile, now);
+    if let Answer::Weight(_, _, net) = answer {
+        now.repeating = Repeating::Sr;
+        now.last = net;
+        now.owed = false;
+        now.out = false;
+    }
+    answer
 }
 
 fn gross(now: &Weighing) -> i64 {
@@ -341,7 +397,11 @@ fn tare(profile: &Profile, command: Command, now: &mut Weighing) -> Answer {
 /// The sample is in `now`.
 fn weigh(profile: &Profile, now: &mut Weighing) -> Answer {
     let Some(command) = now.waiting else {
-        return if now.repeating { reading(profile, now) } else { Answer::Nothing };
+        return match now.repeating {
+            Repeating::Nothing => Answer::Nothing,
+            Repeating::Sir => reading(profile, now),
+            Repeating::Sr => on_change(profile, now),
+        };
     };
     if now.stable {
         now.waiting = None;
@@ -354,7 +414,38 @@ fn weigh(profile: &Profile, now: &mut Weighing) -> Answer {
     }
     now.waiting = None;
     now.unstable = 0;
-    Answer::Plain(command, Status::I)
+    Answer::Plain(command.identification(), Status::I)
+}
+
+/// What a running SR sends for the sample: + or - once an excursion, S D once until an S S, and S S.
+fn on_change(profile: &Profile, now: &mut Weighing) -> Answer {
+    let answer = reading(profile, now);
+    let Answer::Weight(_, _, net) = answer else {
+        return if std::mem::replace(&mut now.out, true) { Answer::Nothing } else { answer };
+    };
+    now.out = false;
+    if !now.owed && !has_moved(profile, now, net) {
+        return Answer::Nothing;
+    }
+    if now.stable {
+        now.last = net;
+        now.owed = false;
+        return answer;
+    }
+    if std::mem::replace(&mut now.owed, true) {
+        Answer::Nothing
+    } else {
+        answer
+    }
+}
+
+/// By the set threshold, or by an eighth of the last net and 30 display steps; nothing is divided.
+fn has_moved(profile: &Profile, now: &Weighing, net: i64) -> bool {
+    let change = net.abs_diff(now.last);
+    match now.threshold {
+        0 => 8 * change >= now.last.unsigned_abs() && profile.scale.is_thirty_steps(change),
+        set => change >= u64::from(set),
+    }
 }
 
 /// Writes an answer; none where the buffer is shorter.

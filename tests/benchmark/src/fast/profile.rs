@@ -59,7 +59,7 @@ impl Profile {
     }
 
     /// No net has a longer text: it has the most digits, and a minus unless it is rounded to zero.
-    fn lowest_net(&self) -> i64 {
+    pub fn lowest_net(&self) -> i64 {
         -(i64::from(self.capacity) + i64::from(self.underload))
     }
 

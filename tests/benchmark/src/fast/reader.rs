@@ -92,8 +92,8 @@ fn is_plain(command: Command, status: Status) -> bool {
         Status::A => matches!(command, Z | Tac | D | Dw),
         Status::B => false,
         Status::S | Status::D => command == Zi,
-        Status::I => !matches!(command, Si | Sir | Reset),
-        Status::L => matches!(command, D | Ta),
+        Status::I => !matches!(command, Si | Sir | Sr | Reset),
+        Status::L => matches!(command, S | D | Ta),
         Status::Over | Status::Under => matches!(command, S | Z | Zi | T | Ti),
     }
 }

@@ -84,6 +84,11 @@ impl Scale {
         }
     }
 
+    /// Whether a difference of nets is 30 display steps or more; the scale is allowed, so nothing overflows.
+    pub fn is_thirty_steps(&self, change: u64) -> bool {
+        change * self.multiplier() >= 30 * self.divisor()
+    }
+
     pub fn prints(&self, net: i64) -> bool {
         fits(self.places(net), self.decimals)
     }

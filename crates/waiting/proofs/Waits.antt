@@ -20,14 +20,11 @@ use Rattle.model.specs.declared.state.Waiting.{Waiting}
 
 module _ (p : Profile) (s : State) {r : Reaction} where
   -- judged at once
-  pub begun-judged : (pending : Pending) → (s .weighing .sampled && s .weighing .stable) ≡ true → r ≡ settledReaction p s pending → r ≡ begun p s pending
-  unfolding begun
-  begun-judged pending t h = rw (h, t)
-
-  pub settled-is : (pending : Pending) {c : Sending} {t : State} {m : Measured} → c ≡ sendingOf p pending (s .weighing) (s .sending) → t ≡ withSending s c
-      → m ≡ settled p pending (s .weighing) → r ≡ measuredReaction t m → r ≡ settledReaction p s pending
-  unfolding settledReaction
-  settled-is pending c t m h = rw (h, m, t, c)
+  pub begun-judged : (pending : Pending) {c : Sending} {t : State} {m : Measured} → (s .weighing .sampled && s .weighing .stable) ≡ true
+      → c ≡ sendingOf p pending (s .weighing) (s .sending) → t ≡ withSending s c → m ≡ settled p pending (s .weighing) → r ≡ measuredReaction t m
+      → r ≡ begun p s pending
+  unfolding begun settledReaction
+  begun-judged pending e c t m h = rw (h, m, t, c, e)
 
   -- the command waits
   pub begun-waiting : (pending : Pending) {w : Waiting} {t : State} → (s .weighing .sampled && s .weighing .stable) ≡ false

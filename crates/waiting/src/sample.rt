@@ -3,8 +3,10 @@ ghost use mathlib.Core.Path.{_≡_};
 ghost use Rattle.model.specs.Groups as groups;
 ghost use Rattle.waiting.specs.Waits as meaning;
 use crate::change::changed;
+use crate::react::measured_reaction;
 use crate::wait::not_waiting;
-use crate::wait::settled_reaction;
+use crate::wait::sending_of;
+use crate::wait::settled;
 use crate::wait::waited;
 use answer::Answer;
 use model::Mode;
@@ -14,6 +16,7 @@ use model::State;
 use model::answered;
 use model::is_off;
 use model::is_pending;
+use model::with_sending;
 use model::with_waiting;
 use model::with_weighing;
 use weighing::weighed;
@@ -44,7 +47,10 @@ fn attended(profile: Profile, state: State) -> Reaction
     if weighing.stable {
         let waiting = state.waiting;
         let pending = waiting.pending;
-        return settled_reaction(profile, with_waiting(state, not_waiting()), pending);
+        let sending = state.sending;
+        let free = with_waiting(state, not_waiting());
+        let next = with_sending(free, sending_of(profile, pending, weighing, sending));
+        return measured_reaction(next, settled(profile, pending, weighing));
     }
     waited(profile, state)
 }

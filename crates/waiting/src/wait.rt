@@ -55,7 +55,7 @@ pub fn not_waiting() -> Waiting
 }
 
 // What a waiting command makes of a stable sample.
-fn settled(profile: Profile, pending: Pending, weighing: Weighing) -> Measured
+pub fn settled(profile: Profile, pending: Pending, weighing: Weighing) -> Measured
     ensures { λ r. ⌜ r ≡ meaning.settled profile pending weighing ⌝ }
 {
     match pending {
@@ -68,7 +68,12 @@ fn settled(profile: Profile, pending: Pending, weighing: Weighing) -> Measured
 }
 
 // SR runs from then on.
-fn sending_of(profile: Profile, pending: Pending, weighing: Weighing, sending: Sending) -> Sending
+pub fn sending_of(
+    profile: Profile,
+    pending: Pending,
+    weighing: Weighing,
+    sending: Sending,
+) -> Sending
     ensures { λ r. ⌜ r ≡ meaning.sendingOf profile pending weighing sending ⌝ }
 {
     match pending {
@@ -80,23 +85,15 @@ fn sending_of(profile: Profile, pending: Pending, weighing: Weighing, sending: S
     }
 }
 
-// At the latest sample of a state.
-pub fn settled_reaction(profile: Profile, state: State, pending: Pending) -> Reaction
-    ensures { λ r. ⌜ r ≡ meaning.settledReaction profile state pending ⌝ }
-{
-    let weighing = state.weighing;
-    let sending = state.sending;
-    let next = with_sending(state, sending_of(profile, pending, weighing, sending));
-    measured_reaction(next, settled(profile, pending, weighing))
-}
-
 // The latest sample is judged if it is stable; otherwise the command waits.
 pub fn begun(profile: Profile, state: State, pending: Pending) -> Reaction
     ensures { λ r. ⌜ r ≡ meaning.begun profile state pending ⌝ }
 {
     let weighing = state.weighing;
     if weighing.sampled & weighing.stable {
-        return settled_reaction(profile, state, pending);
+        let sending = state.sending;
+        let next = with_sending(state, sending_of(profile, pending, weighing, sending));
+        return measured_reaction(next, settled(profile, pending, weighing));
     }
     answered(
         with_waiting(state, waiting_for(pending, 0)),

@@ -1,4 +1,5 @@
 use borrow.Author.Needs.{needs}
+use Rattle.waiting.specs.Waits.{settledReaction}
 use Rattle.waiting.proofs.sample.attended.Statement.{statement}
 use Rattle.waiting.proofs.sample.attended.Tie as tie
 
@@ -8,11 +9,32 @@ not-waiting-requires c κs = search needs
 with-waiting-requires : tie.Need-with-waiting-requires
 with-waiting-requires c κs = search needs
 
-settled-reaction-requires : tie.Need-settled-reaction-requires
-settled-reaction-requires c κs = search needs
+sending-of-requires : tie.Need-sending-of-requires
+sending-of-requires c κs = search needs
+
+with-sending-requires : tie.Need-with-sending-requires
+with-sending-requires c κs = search needs
+
+settled-requires : tie.Need-settled-requires
+settled-requires c κs = search needs
+
+measured-reaction-requires : tie.Need-measured-reaction-requires
+measured-reaction-requires c κs = search needs
 
 returns : tie.Need-returns
-returns c = rw (c .settled-reaction .ensures, c .before .with-waiting .ensures, c .before .before .not-waiting .ensures, c .before .before .before .before .if1 .taken)
+unfolding settledReaction
+returns c =
+    let sends = c .before .before in
+    let waits = sends .before .before in
+    rw (
+      c .measured-reaction .ensures,
+      c .before .settled .ensures,
+      sends .with-sending .ensures,
+      sends .before .sending-of .ensures,
+      waits .with-waiting .ensures,
+      waits .before .not-waiting .ensures,
+      waits .before .before .before .before .if1 .taken,
+    )
 
 waited-requires : tie.Need-waited-requires
 waited-requires c κs = search needs
@@ -26,7 +48,10 @@ attended-spec =
     (tie.spec
     not-waiting-requires
     with-waiting-requires
-    settled-reaction-requires
+    sending-of-requires
+    with-sending-requires
+    settled-requires
+    measured-reaction-requires
     returns
     waited-requires
     returns-2)

@@ -3,8 +3,17 @@ use Rattle.waiting.proofs.Waits.{begun-judged, begun-waiting}
 use Rattle.waiting.proofs.wait.begun.Statement.{statement}
 use Rattle.waiting.proofs.wait.begun.Tie as tie
 
-settled-reaction-requires : tie.Need-settled-reaction-requires
-settled-reaction-requires c κs = search needs
+sending-of-requires : tie.Need-sending-of-requires
+sending-of-requires c κs = search needs
+
+with-sending-requires : tie.Need-with-sending-requires
+with-sending-requires c κs = search needs
+
+settled-requires : tie.Need-settled-requires
+settled-requires c κs = search needs
+
+measured-reaction-requires : tie.Need-measured-reaction-requires
+measured-reaction-requires c κs = search needs
 
 returns : tie.Need-returns
 returns c = search (needs, begun-judged)
@@ -25,7 +34,10 @@ pub begun-spec : {M : Type 1} → statement M
 begun-spec =
     tie.close
     (tie.spec
-    settled-reaction-requires
+    sending-of-requires
+    with-sending-requires
+    settled-requires
+    measured-reaction-requires
     returns
     waiting-for-requires
     with-waiting-requires

@@ -8,11 +8,11 @@ use borrow.Author.Tests.{not-true}
 use Rattle.answer.specs.Commands.{nameOf, needsSample}
 use Rattle.line.specs.declared.judge.Situation.{Situation}
 use Rattle.line.specs.declared.judge.Verdict.{Verdict}
-use Rattle.line.specs.declared.judge.Verdict.the-variants.{Erroneous, Reset, Busy, Wrong, NoSample, Run, Preset, Show}
+use Rattle.line.specs.declared.judge.Verdict.the-variants.{Erroneous, Reset, Busy, Wrong, NoSample, Run, Preset, Change, Show}
 use Rattle.line.specs.declared.receive.Line.{Line}
 use Rattle.line.specs.Unbounded.{Marked, byteIn, anyFaulty, judgementOf}
 use Rattle.line.proofs.Kept.{Holds}
-use Rattle.line.proofs.Verdicts.{GoodLine, Shown, reset-line, reset-judged, run-line, preset-line, show-line, show-cells}
+use Rattle.line.proofs.Verdicts.{GoodLine, Shown, reset-line, reset-judged, run-line, preset-line, change-line, show-line, show-cells}
 use Rattle.weight.specs.declared.amount.Tare.{Tare}
 use Rattle.text.specs.Ascii.{ascii, sameText}
 use Rattle.weight.proofs.Allowed.{both-left, both-right}
@@ -31,6 +31,7 @@ resets (Wrong c) = false
 resets (NoSample c) = false
 resets (Run c) = false
 resets (Preset m) = false
+resets (Change t) = false
 resets (Show n) = false
 
 resets-is : (v : Verdict) → resets v ≡ true → v ≡ Reset
@@ -41,6 +42,7 @@ resets-is (Wrong c) h = absurd (false≢true h)
 resets-is (NoSample c) h = absurd (false≢true h)
 resets-is (Run c) h = absurd (false≢true h)
 resets-is (Preset m) h = absurd (false≢true h)
+resets-is (Change t) h = absurd (false≢true h)
 resets-is (Show n) h = absurd (false≢true h)
 
 -- two tests that hold together are the same
@@ -95,6 +97,7 @@ Says j f (Wrong c) = isResetLine f ≡ false
 Says j f (NoSample c) = isResetLine f ≡ false
 Says j f (Run c) = RunSays j f c
 Says j f (Preset m) = PresetSays j f m
+Says j f (Change t) = isResetLine f ≡ false
 Says j f (Show n) = isResetLine f ≡ false
 
 -- a sample that is not missing
@@ -131,9 +134,10 @@ module _ (j : Situation) (f : List Marked) where
         more = rw (line .line .bytes);
         typed = typed-as (j .capacity) (j .resolution .unit) (typedText (map byteIn f)) m (line .number) (line .within);
       }
+  verdict-says (Change t) h = by-verdict h
   verdict-says (Show n) h = by-verdict h
 
--- ---- what a verdict on l promises: a command runs that may, a preset lies in 0..C, and a shown text is one that D takes
+-- ---- what a verdict on l promises: a command runs that may, a preset and a threshold lie in 0..C, and a shown text is one that D takes
 
 abbrev pub Proper : Situation → Line → Verdict → Type 0
 Proper j l (Erroneous e) = Unit
@@ -143,6 +147,7 @@ Proper j l (Wrong c) = Unit
 Proper j l (NoSample c) = Unit
 Proper j l (Run c) = RunMay j c
 Proper j l (Preset m) = m .0 ≤ j .capacity
+Proper j l (Change t) = t .0 ≤ j .capacity
 Proper j l (Show n) = Shown l n
 
 module _ (j : Situation) (f : List Marked) (l : Line) (held : Holds l f) where
@@ -154,6 +159,7 @@ module _ (j : Situation) (f : List Marked) (l : Line) (held : Holds l f) where
   verdict-proper (NoSample c) h = tt
   verdict-proper (Run c) h = verdict-says j f (Run c) h .may
   verdict-proper (Preset m) h = verdict-says j f (Preset m) h .typed .range
+  verdict-proper (Change t) h = change-line j f h .within
   verdict-proper (Show n) h = show-cells j l f n held (show-line j f h)
 
 -- a command that is run has a rule
@@ -165,6 +171,7 @@ RuledBy (Wrong c) = Unit
 RuledBy (NoSample c) = Unit
 RuledBy (Run c) = Ruled c
 RuledBy (Preset m) = Unit
+RuledBy (Change t) = Unit
 RuledBy (Show n) = Unit
 
 pub verdict-ruled : (j : Situation) (f : List Marked) (v : Verdict) → judgementOf j f ≡ v → RuledBy v
@@ -175,4 +182,5 @@ verdict-ruled j f (Wrong c) h = tt
 verdict-ruled j f (NoSample c) h = tt
 verdict-ruled j f (Run c) h = verdict-says j f (Run c) h .may .ruled
 verdict-ruled j f (Preset m) h = tt
+verdict-ruled j f (Change t) h = tt
 verdict-ruled j f (Show n) h = tt

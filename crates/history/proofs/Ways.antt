@@ -1,27 +1,31 @@
 -- What a command and what a sample can do: one case law each, by which the theorems over histories go, one line a way.
 -- Assumes nothing.
-use mathlib.Core.Path.{_≡_, refl, sym, _∙_}
+use mathlib.Core.Path.{_≡_, refl, sym, ap, _∙_}
 use mathlib.Core.Bool.{Bool, true, false, cond, _||_, false≢true}
 use Prim.Native.Nat.{ℕ, _+_, _≤_, _<_}
 use borrow.Author.Tests.{eqb-true, leb-true, leb-false}
-use lib.Dec.{leb}
-use Rattle.answer.specs.Commands.{commandCount, kindOf, mayWait, needsSample, isSIR, isD, isDW, isT, isTA, isTAC, isTI, placeS, placeZ, placeZI, placeReset, placeD, placeT, placeTA, placeTAC, placeTI, hasText, isI0, isI1}
+use native.Mathlib.Omega.{arith}
+use lib.Dec.{leb, eqb}
+use Rattle.answer.specs.Commands.{commandCount, kindOf, mayWait, needsSample, isSI, isSIR, isZI, isD, isDW, isT, isTA, isTAC, isTI, placeS, placeZ, placeZI, placeReset, placeD, placeSR, placeT, placeTA, placeTAC, placeTI, hasText, isI0, isI1}
 use Rattle.answer.specs.declared.answer.Answer.the-variants.{Plain}
 use Rattle.answer.specs.declared.answer.Answer.the-variants as answers
 use Rattle.answer.specs.declared.answer.Status.the-variants.{A, I}
 use Rattle.answer.specs.declared.command.Kind.{Kind}
-use Rattle.answer.specs.declared.command.Kind.the-variants.{Informs, Weighs, Zeroes, Resets, Shows, Tares, Unknown}
-use Rattle.answer.proofs.Rows.{informing-is, resetting, weighing-is, zeroing-is, showing-is, taring-is, is-known}
-use Rattle.commands.specs.Reactions.{informed, weighing, zeroing, showingWeight, showing, taring, runAs, run}
+use Rattle.answer.specs.declared.command.Kind.the-variants.{Informs, Weighs, Zeroes, Resets, Shows, Sends, Tares, Unknown}
+use Rattle.answer.proofs.Rows.{informing-is, resetting, weighing-is, zeroing-is, showing-is, sending-is, taring-is, is-known, samples-are}
+use Rattle.commands.specs.Reactions.{informed, weighing, zeroing, showingWeight, showing, changing, taring, runAs, run, modeAfter, sendingAs}
 use Rattle.model.specs.declared.profile.Profile.{Profile}
+use Rattle.model.specs.declared.sending.Mode.{Mode}
+use Rattle.model.specs.declared.sending.Mode.the-variants.{Off, EachSample, OnChange}
 use Rattle.model.specs.declared.state.Pending.the-variants.{Weigh, Zero, Tare}
 use Rattle.model.specs.declared.state.State.{State}
 use Rattle.model.specs.States.{isPending}
 use Rattle.model.specs.declared.react.Reaction.{Reaction}
-use Rattle.model.specs.Groups.{chosenReaction, reaction, withWeighing, withWaiting, withRepeating, notWaiting}
-use Rattle.waiting.specs.Waits.{measuredReaction, placeOfPending, sampledState, settled, begun, waited, sampleReaction}
+use Rattle.model.specs.Groups.{chosenReaction, reaction, withWeighing, withWaiting, withSending, notWaiting}
+use Rattle.waiting.specs.Changes.{goneOutside, keptInside, sent, isDue, changeReaction}
+use Rattle.waiting.specs.Waits.{measuredReaction, placeOfPending, sampledState, settledReaction, begun, waited, unaskedAs, sampleReaction}
 use Rattle.answer.specs.Lines.{headOf}
-use Rattle.weighing.specs.Weighings.{stability, weighed, withTare, zeroed, tared, tareAnswer}
+use Rattle.weighing.specs.Weighings.{isOutside, stability, weighed, withTare, zeroed, tared, tareAnswer}
 use Rattle.weight.specs.declared.loads.Load.{Load}
 
 -- a choice by its test
@@ -53,14 +57,30 @@ module _ (P : Reaction → Type 0) (p : Profile) (s : State) (c : ℕ) (r : Rule
       by false false false f h = absurd (false≢true f)
 
   weighing-ways : kindOf c ≡ Weighs
-      → (c ≡ placeS → P (begun p (withRepeating s false) Weigh))
-      → (needsSample c ≡ true → P (reaction (withRepeating s (isSIR c)) (weighed p (s .weighing))))
+      → (c ≡ placeS → P (begun p (sendingAs s Off) Weigh))
+      → (needsSample c ≡ true → (isSI c || isSIR c) ≡ true → P (reaction (sendingAs s (modeAfter c)) (weighed p (s .weighing))))
       → P (weighing p s c)
   unfolding weighing
   weighing-ways e begins weighs =
       by-choice P (mayWait c)
       (λ w. begins (eqb-true c placeS (rw w at (weighing-is c (r .known) e))))
-      (λ w. weighs (rw w at (weighing-is c (r .known) e)))
+      (λ w. let needs = rw w at (weighing-is c (r .known) e) in weighs needs (at-once e needs))
+    where
+      -- neither ZI nor TI is of this kind
+      other : (k : ℕ) {j : Kind} → kindOf k ≡ j → (Weighs ≡ j → ⊥) → eqb c k ≡ true → kindOf c ≡ Weighs → ⊥
+      other k is differs same e = differs (sym e ∙ ap kindOf (eqb-true c k same) ∙ is)
+
+      by : (a b d : Bool) → (a || b || d) ≡ true → (b ≡ true → ⊥) → (d ≡ true → ⊥) → a ≡ true
+      by true b d f g h = refl
+      by false true d f g h = absurd (g refl)
+      by false false true f g h = absurd (h refl)
+      by false false false f g h = absurd (false≢true f)
+
+      at-once : kindOf c ≡ Weighs → needsSample c ≡ true → (isSI c || isSIR c) ≡ true
+      at-once e needs =
+          by (isSI c || isSIR c) (isZI c) (isTI c) (samples-are c ∙ needs)
+          (λ z. other placeZI refl (λ d. let n : _≡_ {A = ℕ} 0 1 = cc in absurd (omega arith)) z e)
+          (λ t. other placeTI refl (λ d. let n : _≡_ {A = ℕ} 0 1 = cc in absurd (omega arith)) t e)
 
   zeroing-ways : kindOf c ≡ Zeroes
       → (c ≡ placeZ → P (begun p s Zero))
@@ -104,23 +124,24 @@ module _ (P : Reaction → Type 0) (p : Profile) (s : State) (c : ℕ) (r : Rule
       (λ ta. tells (eqb-true c placeTA ta))
       (λ ta. absurd (false≢true (rw (t, ta, tac, ti) at (taring-is c (r .known) e)))))))
 
-  -- I0; I1; I2 to I5; S; SI and SIR; Z; ZI; DW; T; TI; TAC; TA alone
+  -- I0; I1; I2 to I5; S; SI and SIR; Z; ZI; DW; SR alone; T; TI; TAC; TA alone
   pub run-cases
       : P (reaction s answers.CommandList)
       → P (reaction s answers.Versions)
       → (hasText c ≡ true → P (reaction s (answers.Text c)))
-      → (c ≡ placeS → P (begun p (withRepeating s false) Weigh))
-      → (needsSample c ≡ true → P (reaction (withRepeating s (isSIR c)) (weighed p (s .weighing))))
+      → (c ≡ placeS → P (begun p (sendingAs s Off) Weigh))
+      → (needsSample c ≡ true → (isSI c || isSIR c) ≡ true → P (reaction (sendingAs s (modeAfter c)) (weighed p (s .weighing))))
       → (c ≡ placeZ → P (begun p s Zero))
       → (needsSample c ≡ true → P (measuredReaction s (zeroed p (s .weighing) placeZI (stability (s .weighing)))))
       → P (showingWeight s)
+      → (c ≡ placeSR → P (changing p s 0))
       → (c ≡ placeT → P (begun p s Tare))
       → (needsSample c ≡ true → P (measuredReaction s (tared p (s .weighing) placeTI)))
       → P (reaction (withWeighing s (withTare (s .weighing) 0)) (Plain (headOf placeTAC A)))
       → (c ≡ placeTA → P (reaction s (tareAnswer p (s .weighing .tare .0))))
       → P (run p s c)
   unfolding run
-  run-cases lists versions texts stable weighs zero zeroes shows tare tares clears tells = by-kind (kindOf c) refl
+  run-cases lists versions texts stable weighs zero zeroes shows changes tare tares clears tells = by-kind (kindOf c) refl
     where
       by-kind : (k : Kind) → kindOf c ≡ k → P (runAs k p s c)
       by-kind Informs e = informing-ways e lists versions texts
@@ -128,26 +149,50 @@ module _ (P : Reaction → Type 0) (p : Profile) (s : State) (c : ℕ) (r : Rule
       by-kind Zeroes e = zeroing-ways e zero zeroes
       by-kind Resets e = absurd (r .no-reset (eqb-true c placeReset (resetting c (r .known) e)))
       by-kind Shows e = showing-ways e shows
+      by-kind Sends e = changes (eqb-true c placeSR (sending-is c (r .known) e))
       by-kind Tares e = taring-ways e tare tares clears tells
       by-kind Unknown e = absurd (is-known c (r .known) e)
 
 -- ---- a sample
 
--- a sample: it ends a wait, stable or as the W-th, or is counted; or it is weighed for a repetition; or it is not answered
+-- a sample while SR runs: out of range, told before or now; in range, sent or not
+pub change-cases
+    : (P : Reaction → Type 0) (p : Profile) (s : State)
+    → (isOutside p (s .weighing) ≡ true → s .sending .outside ≡ true → P (reaction (withSending s (goneOutside (s .sending))) answers.Nothing))
+    → (isOutside p (s .weighing) ≡ true → s .sending .outside ≡ false → P (reaction (withSending s (goneOutside (s .sending))) (weighed p (s .weighing))))
+    → (isOutside p (s .weighing) ≡ false → isDue p (s .weighing) (s .sending) ≡ true
+    → P (reaction (withSending s (sent (s .weighing) (s .sending))) (weighed p (s .weighing))))
+    → (isOutside p (s .weighing) ≡ false → isDue p (s .weighing) (s .sending) ≡ false → P (reaction (withSending s (keptInside (s .sending))) answers.Nothing))
+    → P (changeReaction p s)
+unfolding changeReaction
+change-cases P p s told tells sends keeps =
+    by-choice P (isOutside p (s .weighing))
+    (λ out. by (s .sending .outside) (told out) (tells out))
+    (λ inside. by-choice P (isDue p (s .weighing) (s .sending)) (sends inside) (keeps inside))
+  where
+    by : (b : Bool)
+        → (b ≡ true → P (reaction (withSending s (goneOutside (s .sending))) answers.Nothing))
+        → (b ≡ false → P (reaction (withSending s (goneOutside (s .sending))) (weighed p (s .weighing))))
+        → P (reaction (withSending s (goneOutside (s .sending))) (cond b answers.Nothing (weighed p (s .weighing))))
+    by true f g = f refl
+    by false f g = g refl
+
+-- a sample: it ends a wait, stable or as the W-th, or is counted; or none waits, and it is not answered, weighed for a repetition,
+-- or as SR says
 pub sample-cases
     : (P : Reaction → Type 0) (p : Profile) (s : State) (z : Load) (stable : Bool)
     → let t = sampledState s z stable in
-    (isPending (s .waiting .pending) ≡ true → stable ≡ true
-    → P (measuredReaction (withWaiting t notWaiting) (settled p (s .waiting .pending) (t .weighing))))
+    (isPending (s .waiting .pending) ≡ true → stable ≡ true → P (settledReaction p (withWaiting t notWaiting) (s .waiting .pending)))
     → (isPending (s .waiting .pending) ≡ true → stable ≡ false → p .timeout ≤ s .waiting .unstable + 1
     → P (reaction (withWaiting t notWaiting) (answers.Plain (headOf (placeOfPending (s .waiting .pending)) I))))
     → (isPending (s .waiting .pending) ≡ true → stable ≡ false → s .waiting .unstable + 1 < p .timeout
     → P (reaction (withWaiting t (record { pending = s .waiting .pending; unstable = s .waiting .unstable + 1 })) answers.Nothing))
-    → (isPending (s .waiting .pending) ≡ false → P (reaction t (weighed p (t .weighing))))
-    → (isPending (s .waiting .pending) ≡ false → P (reaction t answers.Nothing))
+    → (isPending (s .waiting .pending) ≡ false → s .sending .mode ≡ Off → P (reaction t answers.Nothing))
+    → (isPending (s .waiting .pending) ≡ false → s .sending .mode ≡ EachSample → P (reaction t (weighed p (t .weighing))))
+    → (isPending (s .waiting .pending) ≡ false → s .sending .mode ≡ OnChange → P (changeReaction p t))
     → P (sampleReaction p s z stable)
 unfolding sampleReaction waited
-sample-cases P p s z stable settles ends counts weighs passes =
+sample-cases P p s z stable settles ends counts passes weighs changes =
     by-choice P (isPending (s .waiting .pending))
     (λ waits.
     by-choice P stable
@@ -156,8 +201,9 @@ sample-cases P p s z stable settles ends counts weighs passes =
     by-choice P (leb (p .timeout) (s .waiting .unstable + 1))
     (λ most. ends waits e (leb-true (p .timeout) (s .waiting .unstable + 1) most))
     (λ less. counts waits e (leb-false (p .timeout) (s .waiting .unstable + 1) less))))
-    (λ free. by (s .repeating) free)
+    (λ free. by (s .sending .mode) refl free)
   where
-    by : (r : Bool) → isPending (s .waiting .pending) ≡ false → P (reaction (sampledState s z stable) (cond r (weighed p (sampledState s z stable .weighing)) answers.Nothing))
-    by true free = weighs free
-    by false free = passes free
+    by : (m : Mode) → s .sending .mode ≡ m → isPending (s .waiting .pending) ≡ false → P (unaskedAs m p (sampledState s z stable))
+    by Off e free = passes free e
+    by EachSample e free = weighs free e
+    by OnChange e free = changes free e

@@ -1,5 +1,6 @@
 pub mod Claim
 pub mod EndToEnd
+pub mod OnChange
 pub mod Rejected
 pub mod Tally
 pub mod Waits

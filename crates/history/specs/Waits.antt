@@ -10,10 +10,11 @@ use lib.Dec.{eqb}
 use Rattle.model.specs.declared.profile.Profile.{Profile}
 use Rattle.line.specs.Unbounded.{Marked, endsUnbounded, finishedLine, byteIn, anyFaulty}
 use Rattle.text.specs.Ascii.{ascii, sameText}
+use Rattle.text.specs.Searching.{beforeSpace}
 use Rattle.history.specs.Claim.{OverCalls}
 use Rattle.history.specs.Tally.{Event, Input, byteIs, sampleIs, isResetLine, begins}
 
--- the command that waits, by its name
+-- the command that waits, by its identification
 pub data Awaited : Type 0 where
   nothing : Awaited
   command : List ℕ → Awaited
@@ -35,13 +36,21 @@ abbrev pub isEmpty : List ℕ → Bool
 isEmpty [] = true
 isEmpty (c ∷ l) = false
 
--- S, T and Z may wait
+-- SR, with or without a parameter
+abbrev pub isChangeLine : List ℕ → Bool
+isChangeLine l = sameText (beforeSpace l) (ascii "SR")
+
+-- S, T, Z and SR may wait
 abbrev pub mayWait : List Marked → Bool
 mayWait f =
     not (anyFaulty f)
-    && (sameText (map byteIn f) (ascii "S") || sameText (map byteIn f) (ascii "T") || sameText (map byteIn f) (ascii "Z"))
+    && (sameText (map byteIn f) (ascii "S") || sameText (map byteIn f) (ascii "T") || sameText (map byteIn f) (ascii "Z") || isChangeLine (map byteIn f))
 
--- the answer that ends a command's wait at the W-th unstable sample: its identification, which is its name, and I
+-- its identification: S for SR, and else its name
+abbrev pub identificationIn : List ℕ → List ℕ
+identificationIn l = cond (isChangeLine l) (ascii "S") l
+
+-- the answer that ends a command's wait at the W-th unstable sample: its identification and I
 abbrev pub timesOut : List ℕ → List ℕ → Bool
 timesOut name l = sameText l (name ++ ascii " I\r\n")
 
@@ -62,7 +71,7 @@ abbrev pub afterLine : Waits → List Marked → List ℕ → Waits
 afterLine w f l =
     record {
       line = [];
-      waiting = cond (isResetLine f) nothing (cond (isEmpty l) (command (map byteIn f)) (w .waiting));
+      waiting = cond (isResetLine f) nothing (cond (isEmpty l) (command (identificationIn (map byteIn f))) (w .waiting));
       unstable = cond (isEmpty l) 0 (w .unstable);
     }
 
@@ -79,7 +88,7 @@ afterInput w (sampleIs z stable) l =
       unstable = cond (isAwaiting (w .waiting) && not stable) (suc (w .unstable)) (w .unstable);
     }
 
--- a byte that ends no line has no answer; an ended line has its answer, or is S, T or Z and waits from now on
+-- a byte that ends no line has no answer; an ended line has its answer, or is S, T, Z or SR and waits from now on
 abbrev pub byteHolds : Waits → Marked → List ℕ → Bool
 byteHolds w m l =
     elim (endsUnbounded (w .line) m) [

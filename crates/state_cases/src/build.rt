@@ -1,12 +1,16 @@
 // The state of power-on with one thing changed.
 use model::Display;
+use model::Mode;
 use model::Pending;
+use model::Sending;
 use model::State;
 use model::Text20;
 use model::Waiting;
 use model::start_state;
 use weight::Load;
+use weight::Micrograms;
 use weight::Tare;
+use weight::Threshold;
 
 pub fn zeroed(zero: i32) -> State {
     let mut state = start_state();
@@ -52,11 +56,42 @@ pub fn waited(pending: Pending, unstable: u32) -> State {
     state
 }
 
-pub fn repeated(sampled: bool) -> State {
+// A mode with a last net and a threshold, 0 for none set, as SR keeps them.
+fn sent(mode: Mode, sampled: bool, last: i64, threshold: u32) -> State {
     let mut state = start_state();
     let mut weighing = state.weighing;
     weighing.sampled = sampled;
     state.weighing = weighing;
-    state.repeating = true;
+    let sending = Sending {
+        last: Micrograms(last),
+        threshold: Threshold(threshold),
+        mode,
+        owed: false,
+        outside: false,
+    };
+    state.sending = sending;
+    state
+}
+
+pub fn repeated(sampled: bool) -> State {
+    sent(Mode::EachSample, sampled, 0, 0)
+}
+
+// SR runs.
+pub fn changing(sampled: bool, last: i64, threshold: u32) -> State {
+    sent(Mode::OnChange, sampled, last, threshold)
+}
+
+// SR neither runs nor waits.
+pub fn left_behind(last: i64, threshold: u32) -> State {
+    sent(Mode::Off, false, last, threshold)
+}
+
+// SR waits, and there is no sample.
+pub fn change_waited(threshold: u32, unstable: u32) -> State {
+    let mut state = left_behind(0, threshold);
+    let pending = Pending::Change;
+    let waiting = Waiting { pending, unstable };
+    state.waiting = waiting;
     state
 }

@@ -4,8 +4,11 @@
 mod build;
 mod call;
 
+use build::change_waited;
+use build::changing;
 use build::displayed;
 use build::held;
+use build::left_behind;
 use build::repeated;
 use build::tared;
 use build::waited;
@@ -51,6 +54,54 @@ fn waits() {
     try_state(b"repeating, no sample: ", repeated(false));
 }
 
+// That SR runs beside SIR cannot be built, since the mode is one of the two, nor a set threshold of 0, which is none set.
+fn changes() {
+    try_state(b"SR running, a sample: ", changing(true, 0, 0));
+    try_state(b"SR running, no sample: ", changing(false, 0, 0));
+    try_state(
+        b"SR running, last net 220000000: ",
+        changing(true, 220_000_000, 0),
+    );
+    try_state(
+        b"SR running, last net 220000001: ",
+        changing(true, 220_000_001, 0),
+    );
+    try_state(
+        b"SR running, last net -221000000: ",
+        changing(true, -221_000_000, 0),
+    );
+    try_state(
+        b"SR running, last net -221000001: ",
+        changing(true, -221_000_001, 0),
+    );
+    try_state(
+        b"SR running, threshold 220000000: ",
+        changing(true, 0, 220_000_000),
+    );
+    try_state(
+        b"SR running, threshold 220000001: ",
+        changing(true, 0, 220_000_001),
+    );
+}
+
+// What SR keeps counts while it runs, and its threshold also while it waits.
+fn change_waits() {
+    try_state(
+        b"SR waiting, threshold 220000000: ",
+        change_waited(220_000_000, 0),
+    );
+    try_state(
+        b"SR waiting, threshold 220000001: ",
+        change_waited(220_000_001, 0),
+    );
+    try_state(b"SR waiting, no sample, 2 counted: ", change_waited(0, 2));
+    try_state(b"SR waiting, no sample, 3 counted: ", change_waited(0, 3));
+    try_state(
+        b"SR off, last net and threshold 220000001 left behind: ",
+        left_behind(220_000_001, 220_000_001),
+    );
+}
+
 fn samples() {
     try_sample(b"none waiting, a sample, no room: ", start_state(), 0);
     try_sample(
@@ -77,6 +128,25 @@ fn samples() {
     try_sample(b"repeating, a second sample, room 18: ", repeated(true), 18);
 }
 
+// Without a set threshold a net has to move by 30 display steps, 3000 micrograms.
+fn changed_samples() {
+    try_sample(
+        b"SR running, a sample 3000 from the last net, room 17: ",
+        changing(true, 3_000, 0),
+        17,
+    );
+    try_sample(
+        b"SR running, a sample 3000 from the last net, room 18: ",
+        changing(true, 3_000, 0),
+        18,
+    );
+    try_sample(
+        b"SR running, a sample 2999 from the last net, no room: ",
+        changing(true, 2_999, 0),
+        0,
+    );
+}
+
 fn orders() {
     let mut refused = profile_a();
     refused.capacity = 0;
@@ -101,6 +171,9 @@ fn main() {
     lines();
     displays();
     waits();
+    changes();
+    change_waits();
     samples();
+    changed_samples();
     orders();
 }

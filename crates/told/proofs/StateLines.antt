@@ -1,17 +1,20 @@
 -- The words of a state's line by the pieces that the code lays.
 -- Assumes nothing.
 use mathlib.Core.Path.{_≡_}
-use mathlib.Core.Bool.{Bool, true, false}
+use mathlib.Core.Bool.{true, false}
 use mathlib.Core.List.{List}
 use Prim.Native.Nat.{ℕ}
 use lib.ListN.{take, drop}
+use Rattle.model.specs.declared.sending.Mode.{Mode}
+use Rattle.model.specs.declared.sending.Sending.{Sending}
 use Rattle.model.specs.declared.state.Display.{Display}
 use Rattle.model.specs.declared.state.Pending.{Pending}
 use Rattle.model.specs.declared.state.Waiting.{Waiting}
 use Rattle.model.specs.declared.weighing.Weighing.{Weighing}
 use Rattle.text.specs.Ascii.{ascii}
+use Rattle.weight.specs.declared.changes.Threshold.{Threshold}
 use Rattle.told.specs.Laying.{Laid}
-use Rattle.told.specs.StateLines.{loadText, sampleWord, waitsFor, waitsWord, repeatsWord, showsWord}
+use Rattle.told.specs.StateLines.{loadText, sampleWord, waitsFor, waitsWord, repeatsAs, repeatsWord, showsWord}
 use Rattle.told.proofs.Laying.{laid-as, _then_}
 
 -- ---- the sample
@@ -31,20 +34,17 @@ module _ {d e f : List ℕ} {a b c : ℕ} (w : Weighing) (s : w .sampled ≡ tru
 
 -- ---- what waits
 
-pub laid-waits : {d e f : List ℕ} {a b c : ℕ} (w : Waiting) (p : Pending) → w .pending ≡ p → Laid d a (ascii " waits ") e b
-    → Laid e b (waitsFor p (w .unstable)) f c → Laid d a (waitsWord w) f c
+pub laid-waits : {d e f : List ℕ} {a b c : ℕ} (w : Waiting) (t : Threshold) (p : Pending) → w .pending ≡ p → Laid d a (ascii " waits ") e b
+    → Laid e b (waitsFor p (w .unstable) t) f c → Laid d a (waitsWord w t) f c
 unfolding waitsWord
-laid-waits w p is l k = laid-as (rw is) (l then k)
+laid-waits w t p is l k = laid-as (rw is) (l then k)
 
 -- ---- what repeats
 
-pub laid-repeats : {d e : List ℕ} {a b : ℕ} (r : Bool) → r ≡ true → Laid d a (ascii " repeats SIR") e b → Laid d a (repeatsWord r) e b
+pub laid-repeats : {d e f : List ℕ} {a b c : ℕ} (s : Sending) (m : Mode) → s .mode ≡ m → Laid d a (ascii " repeats ") e b
+    → Laid e b (repeatsAs m s) f c → Laid d a (repeatsWord s) f c
 unfolding repeatsWord
-laid-repeats r t l = laid-as (rw t) l
-
-pub laid-no-repeats : {d e : List ℕ} {a b : ℕ} (r : Bool) → r ≡ false → Laid d a (ascii " repeats no") e b → Laid d a (repeatsWord r) e b
-unfolding repeatsWord
-laid-no-repeats r f l = laid-as (rw f) l
+laid-repeats s m is l k = laid-as (rw is) (l then k)
 
 -- ---- what is shown
 

@@ -2,21 +2,27 @@
 ghost use mathlib.Core.Path.{_≡_};
 ghost use mathlib.Core.List.{_++_};
 ghost use Rattle.told.specs.Laying.{Laid, laidOver, laidCount};
-ghost use Rattle.told.specs.StateLines.{zeroWord, tareWord, sampleWord, waitsWord, repeatsWord, showsWord, lineWord, stateLine};
+ghost use Rattle.told.specs.StateLines.{zeroWord, tareWord, sampleWord, waitsFor, waitsWord, changeText, repeatsWord};
+ghost use Rattle.told.specs.StateLines.{showsWord, lineWord, stateLine};
 ghost use Rattle.weight.specs.Places.{digitsOf};
 use crate::words::put;
+use crate::words::put_amount;
 use crate::words::put_if;
 use crate::words::put_load;
 use crate::words::put_number;
+use crate::words::put_threshold;
 use line::Line;
 use model::Display;
+use model::Mode;
 use model::Pending;
+use model::Sending;
 use model::State;
 use model::Waiting;
 use model::Weighing;
 use text::part;
 use weight::Load;
 use weight::Tare;
+use weight::Threshold;
 
 fn put_zero(line: &mut [u8], at: usize, zero: Load) -> usize
     ensures { λ r. ⌜ Laid (now (line .entry)) at (zeroWord zero) (now (line .exit)) r ⌝ }
@@ -48,8 +54,8 @@ fn put_sample(line: &mut [u8], at: usize, weighing: Weighing) -> usize
     put(line, at, b" sample none")
 }
 
-fn put_waiting(line: &mut [u8], at: usize, waiting: Waiting) -> usize
-    ensures { λ r. ⌜ Laid (now (line .entry)) at (waitsWord waiting) (now (line .exit)) r ⌝ }
+fn put_waiting(line: &mut [u8], at: usize, waiting: Waiting, threshold: Threshold) -> usize
+    ensures { λ r. ⌜ Laid (now (line .entry)) at (waitsWord waiting threshold) (now (line .exit)) r ⌝ }
 {
     let pending = waiting.pending;
     let unstable = waiting.unstable as u64;
@@ -59,6 +65,7 @@ fn put_waiting(line: &mut [u8], at: usize, waiting: Waiting) -> usize
         Pending::Weigh => put_waiting_for(line, next, b"S ", unstable),
         Pending::Zero => put_waiting_for(line, next, b"Z ", unstable),
         Pending::Tare => put_waiting_for(line, next, b"T ", unstable),
+        Pending::Change => put_waiting_change(line, next, unstable, threshold),
     }
 }
 
@@ -69,13 +76,37 @@ fn put_waiting_for(line: &mut [u8], at: usize, command: &[u8], unstable: u64) ->
     put_number(line, next, unstable)
 }
 
-fn put_repeating(line: &mut [u8], at: usize, repeating: bool) -> usize
-    ensures { λ r. ⌜ Laid (now (line .entry)) at (repeatsWord repeating) (now (line .exit)) r ⌝ }
+fn put_waiting_change(line: &mut [u8], at: usize, unstable: u64, threshold: Threshold) -> usize
+    ensures { λ r. ⌜ Laid (now (line .entry)) at (waitsFor Pending.Change unstable threshold) (now (line .exit)) r ⌝ }
 {
-    if repeating {
-        return put(line, at, b" repeats SIR");
+    let space = put_waiting_for(line, at, b"SR ", unstable);
+    let set = put(line, space, b" ");
+    put_threshold(line, set, threshold)
+}
+
+fn put_sending(line: &mut [u8], at: usize, sending: Sending) -> usize
+    ensures { λ r. ⌜ Laid (now (line .entry)) at (repeatsWord sending) (now (line .exit)) r ⌝ }
+{
+    let mode = sending.mode;
+    let next = put(line, at, b" repeats ");
+    match mode {
+        Mode::Off => put(line, next, b"no"),
+        Mode::EachSample => put(line, next, b"SIR"),
+        Mode::OnChange => put_change(line, next, sending),
     }
-    put(line, at, b" repeats no")
+}
+
+fn put_change(line: &mut [u8], at: usize, sending: Sending) -> usize
+    ensures { λ r. ⌜ Laid (now (line .entry)) at (changeText sending) (now (line .exit)) r ⌝ }
+{
+    let last = sending.last;
+    let threshold = sending.threshold;
+    let net = put(line, at, b"SR ");
+    let space = put_amount(line, net, last);
+    let set = put(line, space, b" ");
+    let owed = put_threshold(line, set, threshold);
+    let outside = put_if(line, owed, sending.owed, b" owed");
+    put_if(line, outside, sending.outside, b" out")
 }
 
 fn put_display(line: &mut [u8], at: usize, display: Display) -> usize
@@ -101,7 +132,7 @@ fn put_line(line: &mut [u8], at: usize, received: Line) -> usize
     put_if(line, returned, received.returned, b" cr")
 }
 
-// The line of a state, as far as there are places: the longest has 145 bytes. Answers how many it has.
+// The line of a state, as far as there are places: the longest has 197 bytes. Answers how many it has.
 pub fn put_state(state: State, line: &mut [u8]) -> usize
     ensures { λ r. ⌜ r ≡ laidCount (stateLine state) (now (line .entry)) ⌝ }
     ensures { λ r. ⌜ now (line .exit) ≡ laidOver (stateLine state) (now (line .entry)) ⌝ }
@@ -110,14 +141,16 @@ pub fn put_state(state: State, line: &mut [u8]) -> usize
     let zero = weighing.zero;
     let tare = weighing.tare;
     let waiting = state.waiting;
+    let sending = state.sending;
+    let threshold = sending.threshold;
     let display = state.display;
     let received = state.line;
     let mut at = put(line, 0, b"state");
     at = put_zero(line, at, zero);
     at = put_tare(line, at, tare);
     at = put_sample(line, at, weighing);
-    at = put_waiting(line, at, waiting);
-    at = put_repeating(line, at, state.repeating);
+    at = put_waiting(line, at, waiting, threshold);
+    at = put_sending(line, at, sending);
     at = put_display(line, at, display);
     at = put_line(line, at, received);
     put(line, at, b"\r\n")

@@ -2,9 +2,11 @@
 // answers the place after.
 ghost use mathlib.Core.List.{[], _∷_};
 ghost use Rattle.told.specs.Laying.{Laid};
-ghost use Rattle.told.specs.StateLines.{loadText, onlyIf};
+ghost use Rattle.told.specs.StateLines.{amountText, loadText, thresholdText, onlyIf};
 ghost use Rattle.weight.specs.Places.{digitsOf};
 use weight::Load;
+use weight::Micrograms;
+use weight::Threshold;
 use weight::from_load;
 use weight::is_under;
 use weight::size_of;
@@ -52,14 +54,28 @@ pub fn put_number(line: &mut [u8], at: usize, n: u64) -> usize
     put_byte(line, next, last)
 }
 
-pub fn put_load(line: &mut [u8], at: usize, load: Load) -> usize
-    ensures { λ r. ⌜ Laid (now (line .entry)) at (loadText load) (now (line .exit)) r ⌝ }
+pub fn put_amount(line: &mut [u8], at: usize, amount: Micrograms) -> usize
+    ensures { λ r. ⌜ Laid (now (line .entry)) at (amountText amount) (now (line .exit)) r ⌝ }
 {
-    let amount = from_load(load);
     let size = size_of(amount);
     if is_under(amount, 0) {
         let next = put(line, at, b"-");
         return put_number(line, next, size);
     }
     put_number(line, at, size)
+}
+
+pub fn put_load(line: &mut [u8], at: usize, load: Load) -> usize
+    ensures { λ r. ⌜ Laid (now (line .entry)) at (loadText load) (now (line .exit)) r ⌝ }
+{
+    put_amount(line, at, from_load(load))
+}
+
+pub fn put_threshold(line: &mut [u8], at: usize, threshold: Threshold) -> usize
+    ensures { λ r. ⌜ Laid (now (line .entry)) at (thresholdText threshold) (now (line .exit)) r ⌝ }
+{
+    if threshold.0 < 1 {
+        return put(line, at, b"-");
+    }
+    put_number(line, at, threshold.0 as u64)
 }

@@ -24,8 +24,8 @@ put-sample-requires c κs = search needs
 put-waiting-requires : tie.Need-put-waiting-requires
 put-waiting-requires c κs = search needs
 
-put-repeating-requires : tie.Need-put-repeating-requires
-put-repeating-requires c κs = search needs
+put-sending-requires : tie.Need-put-sending-requires
+put-sending-requires c κs = search needs
 
 put-display-requires : tie.Need-put-display-requires
 put-display-requires c κs = search needs
@@ -57,7 +57,7 @@ returns c =
     then tare .put-tare .ensures
     then sample .put-sample .ensures
     then waits .put-waiting .ensures
-    then repeats .put-repeating .ensures
+    then repeats .put-sending .ensures
     then shows .put-display .ensures
     then line .put-line .ensures
     then end .put2 .ensures)
@@ -75,7 +75,7 @@ put-state-spec =
     put-tare-requires
     put-sample-requires
     put-waiting-requires
-    put-repeating-requires
+    put-sending-requires
     put-display-requires
     put-line-requires
     slice-aggregate-put-2

@@ -50,6 +50,12 @@ slice-aggregate-put-waiting-for-3 c = search needs
 put-waiting-for-requires-3 : tie.Need-put-waiting-for-requires-3
 put-waiting-for-requires-3 c κs = search needs
 
+enum-told-5 : tie.Need-enum-told-5
+enum-told-5 c = search needs
+
+put-waiting-change-requires : tie.Need-put-waiting-change-requires
+put-waiting-change-requires c κs = search needs
+
 same-length : tie.Need-same-length
 same-length c = search needs
 
@@ -74,6 +80,12 @@ same-length-4 c = search needs
 returns-4 : tie.Need-returns-4
 returns-4 c = search (needs, laid-waits)
 
+same-length-5 : tie.Need-same-length-5
+same-length-5 c = search needs
+
+returns-5 : tie.Need-returns-5
+returns-5 c = search (needs, laid-waits)
+
 pub put-waiting-spec : {M : Type 1} → statement M
 put-waiting-spec =
     tie.close
@@ -93,6 +105,8 @@ put-waiting-spec =
     enum-told-4
     slice-aggregate-put-waiting-for-3
     put-waiting-for-requires-3
+    enum-told-5
+    put-waiting-change-requires
     same-length
     returns
     same-length-2
@@ -100,4 +114,6 @@ put-waiting-spec =
     same-length-3
     returns-3
     same-length-4
-    returns-4)
+    returns-4
+    same-length-5
+    returns-5)

@@ -2,7 +2,7 @@
 -- a line ends and where a sample ends a wait.
 -- Assumes nothing.
 use Prim.Native.Nat.{ℕ, _≤_}
-use mathlib.Core.Path.{_≡_, refl}
+use mathlib.Core.Path.{_≡_, refl, sym}
 use mathlib.Core.Bool.{Bool, true, false, _||_}
 use mathlib.Core.List.{List}
 use lib.IntN.{pos, negℤ, natAbs}
@@ -20,9 +20,10 @@ use Rattle.device.specs.Calls.{answerBytes}
 use Rattle.model.specs.Profiles.{profileAllowed}
 use Rattle.text.specs.Ascii.{ascii, sameText}
 use Rattle.text.specs.Reading.{isDecimal}
-use Rattle.weight.specs.Rounding.{exactFemtograms, Near}
+use Rattle.weight.specs.Rounding.{exactFemtograms, halfUp, Near}
 use Rattle.weight.specs.Printing.{printable}
 use Rattle.model.proofs.ProfileFacts.{allowed-profile}
+use Rattle.weight.proofs.HalfStep.{rounded-exact}
 use Rattle.weight.proofs.Nearness.{near-refl}
 use Rattle.history.specs.Tally.{Tally, Input, taken, ends, endedText, typedText, typedTare, afterReset, tallied, holds}
 use Rattle.history.proofs.AnswerKinds.{Denied, Silent, Zeroes, Tares, Weighs, over-denied, under-denied, weighed-weighs, cleared-clears, told-tells}
@@ -40,6 +41,11 @@ pub record Answered (p : Profile) (t : Tally) (i : Input) (w : Weighing) (l : Li
 -- an answer that grants and weighs nothing
 pub answered-silent : (p : Profile) (t : Tally) (i : Input) (w : Weighing) (l : List ℕ) → Follows w (afterReset t i (taken t i)) → Silent l → Answered p t i w l
 answered-silent p t i w l f k = record { accepted = silent-holds p t i l k; follows = rw (after-denied p t i l k) f }
+
+-- no tare, and one of whole micrograms, rounded
+pub zero-rounded : 0 ≡ halfUp 0 1_000_000_000
+unfolding halfUp
+zero-rounded = refl
 
 -- femtograms of no tare
 pub zero-exact : exactFemtograms (pos 0) ≡ pos 0
@@ -65,7 +71,7 @@ module _ (p : Profile) (t : Tally) (i : Input) (w : Weighing) (not-reset : after
         accepted = zeroes-holds p t i l k (is-loaded w (taken t i) f sampled);
         follows =
             rw (after-zeroes p t i l k, not-reset)
-            (record { latest = f .latest; zero = latest-is w (taken t i) f sampled; tare = rw zero-exact (near-refl 0 (pos 0)) });
+            (record { latest = f .latest; zero = latest-is w (taken t i) f sampled; tare = rw zero-exact (near-refl 0 (pos 0)); rounded = zero-rounded });
       }
 
   -- by the two tests of Z
@@ -95,7 +101,7 @@ module _ (p : Profile) (t : Tally) (i : Input) (w : Weighing) (not-reset : after
         accepted = clears-holds p t i _ (cleared-clears p);
         follows =
             rw (after-clears p t i _ (cleared-clears p), not-reset)
-            (record { latest = f .latest; zero = f .zero; tare = rw zero-exact (near-refl 0 (pos 0)) });
+            (record { latest = f .latest; zero = f .zero; tare = rw zero-exact (near-refl 0 (pos 0)); rounded = zero-rounded });
       }
 
   -- ---- weights
@@ -143,6 +149,7 @@ module _ (p : Profile) (t : Tally) (i : Input) (w : Weighing) (not-reset : after
             latest = f .latest;
             zero = f .zero;
             tare = rw (natural, gross-is w (taken t i) f sampled) (near-refl 0 (exactFemtograms (grossOf w)));
+            rounded = rw (gross-is w (taken t i) f sampled) (sym (rounded-exact (grossOf w)));
           })
 
       tare-granted : Shows p (grossOf w) l → Answered p t i (withTare w (natAbs (grossOf w))) l
@@ -210,13 +217,14 @@ module _ (p : Profile) (t : Tally) (i : Input) (w : Weighing) (not-reset : after
         → sameText (endedText t i) (ascii "TA") ≡ false
         → isDecimal (typedText (endedText t i)) ≡ true
         → Near 1_000_000_000 (exactFemtograms (pos m)) (typedTare p (endedText t i))
+        → m ≡ halfUp (natAbs (typedTare p (endedText t i))) 1_000_000_000
         → m ≤ p .capacity
         → Answered p t i (withTare w m) (answerBytes p (tareAnswer p m))
-    answered-typed m end other decimal off range =
+    answered-typed m end other decimal off rounded range =
         let k = told-tells p (numberOf p (pos m)) in
         let l = answerBytes p (tareAnswer p m) in
         let g : Follows (withTare w m) (tallied p t i l) =
-        rw (after-typed p t i l k other, not-reset) (record { latest = f .latest; zero = f .zero; tare = off }) in
+        rw (after-typed p t i l k other, not-reset) (record { latest = f .latest; zero = f .zero; tare = off; rounded = rounded }) in
         record {
           accepted =
               typed-holds p t i l (pos m)

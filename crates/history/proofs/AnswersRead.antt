@@ -5,13 +5,13 @@ use native.Mathlib.Omega.{arith}
 use mathlib.Core.Path.{_≡_, refl, sym, _∙_}
 use mathlib.Core.Bool.{Bool, true, false, cond, _&&_, _||_, or-true, false≢true}
 use mathlib.Core.List.{List}
-use borrow.Author.Tests.{le-leb, leb-true, lt-ltb, ne-eqb}
+use borrow.Author.Tests.{le-leb, leb-true, lt-ltb, ne-eqb, eqb-true}
 use lib.Dec.{leb}
 use lib.IntN.{ℤ, pos, negsuc, negℤ}
 use lib.ListN.{length}
 use lib.Signed.{ltZ, nonNeg}
 use Rattle.answer.proofs.Rows.{parameters-are}
-use Rattle.answer.specs.Commands.{commandCount, isSI, isSIR, placeD, placeDW, placeReset, placeS, placeT, placeTA, placeTAC, placeTI, placeZ, placeZI, placeI3, placeI4, placeI5, hasText, placeI2}
+use Rattle.answer.specs.Commands.{commandCount, isD, isSI, isSIR, isSR, isTA, placeD, placeDW, placeReset, placeS, placeSR, placeT, placeTA, placeTAC, placeTI, placeZ, placeZI, placeI3, placeI4, placeI5, hasText, placeI2}
 use Rattle.answer.specs.declared.answer.Answer.the-variants.{Plain, Weight}
 use Rattle.answer.specs.declared.answer.Answer.the-variants as answers
 use Rattle.answer.specs.declared.answer.Status.{Status}
@@ -22,14 +22,16 @@ use Rattle.model.specs.declared.profile.Text20.{Text20}
 use Rattle.model.specs.declared.profile.Text40.{Text40}
 use Rattle.model.specs.declared.react.Reaction.{Reaction}
 use Rattle.model.specs.declared.state.Pending.{Pending}
-use Rattle.model.specs.declared.state.Pending.the-variants.{Nothing, Weigh, Zero, Tare}
+use Rattle.model.specs.declared.state.Pending.the-variants.{Nothing, Weigh, Zero, Tare, Change}
 use Rattle.model.specs.declared.state.State.{State}
 use Rattle.weight.specs.declared.loads.Load.{Load}
 use Rattle.model.specs.declared.weighing.Weighing.{Weighing}
 use Rattle.model.specs.Profiles.{profileAllowed, textOf20, textOf40, textAllowed20, textAllowed40}
-use Rattle.commands.specs.Reactions.{weighing, zeroing, run, identificationOf, performed, byteReaction, situationOf}
-use Rattle.model.specs.Groups.{withLine, withRepeating}
-use Rattle.waiting.specs.Waits.{placeOfPending, settled, begun, sampleReaction}
+use Rattle.commands.specs.Reactions.{weighing, zeroing, run, changing, identificationOf, performed, byteReaction, sendingAs, situationOf}
+use Rattle.model.specs.declared.sending.Mode.the-variants.{Off}
+use Rattle.model.specs.Groups.{withLine, withSending}
+use Rattle.waiting.specs.Changes.{withThreshold}
+use Rattle.waiting.specs.Waits.{placeOfPending, sampledState, settled, settledReaction, begun, sampleReaction}
 use Rattle.weighing.proofs.Reach.{not-negative}
 use Rattle.answer.specs.Lines.{headOf}
 use Rattle.weighing.specs.Weighings.{stability, grossOf, netOf, numberOf, weighed, withSample, zeroed, tared, tareAnswer}
@@ -38,12 +40,13 @@ use Rattle.history.proofs.AnswerKinds.{Tests, weighed-weighs, tared-tar
 use Rattle.history.proofs.DueWeights.{net-printable, gross-printable, tare-printable}
 use Rattle.history.proofs.HostReads.{ReadByHost, nothing-read, list-read, plain-read, error-read, versions-read, text-read, weight-read}
 use Rattle.history.proofs.SentAnswers.{in-limits}
-use Rattle.history.proofs.Ways.{Ruled, by-choice, run-cases, sample-cases}
+use Rattle.history.proofs.Ways.{Ruled, by-choice, run-cases, change-cases, sample-cases}
 use Rattle.history.proofs.Verdicts.{verdict-proper, verdict-ruled}
 use Rattle.history.proofs.WeightLines.{weighed-shows, tared-shows, tared-now-shows, told-shows}
 use Rattle.history.specs.Tally.{isWeightAnswer, tellsNet, grantsTare}
 use Rattle.line.specs.declared.judge.Verdict.{Verdict}
 use Rattle.line.specs.declared.judge.Verdict.the-variants.{Erroneous, Reset, Busy, Wrong, NoSample, Run, Preset, Show}
+use Rattle.line.specs.declared.judge.Verdict.the-variants as verdicts
 use Rattle.line.specs.declared.receive.Line.{Line}
 use Rattle.text.specs.Printable.{isPrintable}
 use Rattle.line.specs.Judging.{judgement}
@@ -137,7 +140,7 @@ module _ (p : Profile) (allowed : profileAllowed p ≡ true) where
       let fits = tare-printable p allowed n range in
       weight-read p (pos n) fits placeTA A refl (natural-printed (p .resolution) (pos n) refl) (told-weight _ (told-tells p (numberOf p (pos n)))) (told-shows p (pos n) fits)
 
--- ---- S, Z and T
+-- ---- S, Z, T and SR
 
 module _ (p : Profile) (allowed : profileAllowed p ≡ true) (w : Weighing) (range : w .tare .0 ≤ p .capacity) where
   -- S, SI, SIR
@@ -177,6 +180,7 @@ module _ (p : Profile) (allowed : profileAllowed p ≡ true) (w : Weighing) (ran
   settled-read Weigh stable = weighed-read
   settled-read Zero stable = zeroed-read placeZ A refl refl refl
   settled-read Tare stable = tared-read placeT refl refl (λ fits sign. rw stable (settled-form p allowed (grossOf w) fits sign))
+  settled-read Change stable = weighed-read
 
 -- ZI with S or D
 stability-form : (stable : Bool) → plainForm placeZI (cond stable S D) ≡ true
@@ -192,11 +196,17 @@ ReadIn p r = ReadByHost p (r .answer)
 module _ (p : Profile) (allowed : profileAllowed p ≡ true) (s : State) (range : s .weighing .tare .0 ≤ p .capacity) where
   -- judged at once, or waiting without an answer
   begun-read : (pending : Pending) → ReadIn p (begun p s pending)
-  unfolding begun
+  unfolding begun settledReaction
   begun-read pending =
       by-choice (ReadIn p) (s .weighing .sampled && s .weighing .stable)
       (λ e. settled-read p allowed (s .weighing) range pending (both-right (s .weighing .sampled) (s .weighing .stable) e))
       (λ e. nothing-read p)
+
+module _ (p : Profile) (allowed : profileAllowed p ≡ true) (s : State) (range : s .weighing .tare .0 ≤ p .capacity) where
+  -- SR
+  change-read : (threshold : ℕ) → ReadIn p (changing p s threshold)
+  unfolding changing
+  change-read threshold = begun-read p allowed (withSending s (withThreshold (s .sending) threshold)) range Change
 
 module _ (p : Profile) (allowed : profileAllowed p ≡ true) (s : State) (range : s .weighing .tare .0 ≤ p .capacity) (c : ℕ) where
   -- a command that is run
@@ -206,11 +216,12 @@ module _ (p : Profile) (allowed : profileAllowed p ≡ true) (s : State) (range 
       (list-read p)
       (versions-read p)
       (λ text. information-read p allowed c text)
-      (λ is. begun-read p allowed (withRepeating s false) range Weigh)
-      (λ needs. weighed-read p allowed (s .weighing) range)
+      (λ is. begun-read p allowed (sendingAs s Off) range Weigh)
+      (λ needs now. weighed-read p allowed (s .weighing) range)
       (λ is. begun-read p allowed s range Zero)
       (λ needs. zeroed-read p allowed (s .weighing) range placeZI (stability (s .weighing)) refl refl (stability-form (s .weighing .stable)))
       (plain-read p placeDW A refl)
+      (λ is. change-read p allowed s range 0)
       (λ is. begun-read p allowed s range Tare)
       (λ needs. tared-read p allowed (s .weighing) range placeTI refl refl (tare-form p allowed (s .weighing .stable) (grossOf (s .weighing))))
       (plain-read p placeTAC A refl)
@@ -223,20 +234,31 @@ abbrev Named : Profile → Verdict → Type 0
 Named p (Erroneous e) = Unit
 Named p Reset = Unit
 Named p (Busy c) = plainForm (identificationOf c) I ≡ true
-Named p (Wrong c) = plainForm c L ≡ true
+Named p (Wrong c) = plainForm (identificationOf c) L ≡ true
 Named p (NoSample c) = plainForm (identificationOf c) I ≡ true
 Named p (Run c) = Ruled c
 Named p (Preset m) = m .0 ≤ p .capacity
+Named p (verdicts.Change t) = Unit
 Named p (Show n) = Unit
 
 -- every name but @ has an answer with I, by its identification
-identified-by : (now : Bool) (c : ℕ) → (isSI c || isSIR c) ≡ now → c < commandCount → (c ≡ placeReset → ⊥) → plainForm (cond now placeS c) I ≡ true
+identified-by : (now : Bool) (c : ℕ) → (isSI c || isSIR c || isSR c) ≡ now → c < commandCount → (c ≡ placeReset → ⊥) → plainForm (cond now placeS c) I ≡ true
 identified-by true c e known other = refl
 identified-by false c e known other = rw (lt-ltb c commandCount known, e, ne-eqb c placeReset other)
 
 -- the same by the tests of the name
 identified : (c : ℕ) → c < commandCount → (c ≡ placeReset → ⊥) → plainForm (identificationOf c) I ≡ true
-identified c known other = identified-by (isSI c || isSIR c) c refl known other
+identified c known other = identified-by (isSI c || isSIR c || isSR c) c refl known other
+
+-- a name that takes parameters has an answer with L
+wrong-by : (d sr ta : Bool) (c : ℕ) → isD c ≡ d → isSR c ≡ sr → isTA c ≡ ta → (d || sr || ta) ≡ true → plainForm (identificationOf c) L ≡ true
+wrong-by true sr ta c d s t e = rw (eqb-true c placeD d)
+wrong-by false true ta c d s t e = rw (eqb-true c placeSR s)
+wrong-by false false true c d s t e = rw (eqb-true c placeTA t)
+wrong-by false false false c d s t e = absurd (false≢true e)
+
+wrong-form : (c : ℕ) → (isD c || isSR c || isTA c) ≡ true → plainForm (identificationOf c) L ≡ true
+wrong-form c = wrong-by (isD c) (isSR c) (isTA c) c refl refl refl
 
 -- the verdict on a line names a command that the reader knows
 verdict-named
@@ -248,13 +270,14 @@ verdict-named p s f l held Reset h = tt
 verdict-named p s f l held (Busy c) h =
     let k = busy-line (situationOf p s) f h .0 in
     identified c (k .a-name) (k .no-reset)
-verdict-named p s f l held (Wrong c) h = parameters-are c ∙ wrong-line (situationOf p s) f h .1
+verdict-named p s f l held (Wrong c) h = wrong-form c (parameters-are c ∙ wrong-line (situationOf p s) f h .1)
 verdict-named p s f l held (NoSample c) h =
     let k = no-sample-line (situationOf p s) f h .0 in
     identified c (k .a-name) (k .no-reset)
 verdict-named p s f l held (Run c) h = verdict-ruled (situationOf p s) f (Run c) h
 verdict-named p s f l held (Preset m) h =
     verdict-proper (situationOf p s) f l held (Preset m) h
+verdict-named p s f l held (verdicts.Change t) h = tt
 verdict-named p s f l held (Show n) h = tt
 
 module _ (p : Profile) (allowed : profileAllowed p ≡ true) (s : State) (range : s .weighing .tare .0 ≤ p .capacity) where
@@ -263,10 +286,11 @@ module _ (p : Profile) (allowed : profileAllowed p ≡ true) (s : State) (range 
   performed-read l (Erroneous e) named = error-read p e
   performed-read l Reset named = serial-read p allowed
   performed-read l (Busy c) named = plain-read p (identificationOf c) I named
-  performed-read l (Wrong c) named = plain-read p c L named
+  performed-read l (Wrong c) named = plain-read p (identificationOf c) L named
   performed-read l (NoSample c) named = plain-read p (identificationOf c) I named
   performed-read l (Run c) named = run-read p allowed s range c named
   performed-read l (Preset m) named = told-read p allowed (m .0) named
+  performed-read l (verdicts.Change t) named = change-read p allowed s range (t .0)
   performed-read l (Show n) named = plain-read p placeD A refl
 
 -- ---- a byte
@@ -294,14 +318,22 @@ pending-form Nothing = refl
 pending-form Weigh = refl
 pending-form Zero = refl
 pending-form Tare = refl
+pending-form Change = refl
 
 module _ (p : Profile) (allowed : profileAllowed p ≡ true) (s : State) (range : s .weighing .tare .0 ≤ p .capacity) (z : Load) where
   -- the answer to a sample
   pub sample-read : (stable : Bool) → ReadIn p (sampleReaction p s z stable)
+  unfolding settledReaction
   sample-read stable =
       sample-cases (ReadIn p) p s z stable
       (λ waits e. settled-read p allowed (withSample (s .weighing) z stable) range (s .waiting .pending) e)
       (λ waits e most. plain-read p (placeOfPending (s .waiting .pending)) I (pending-form (s .waiting .pending)))
       (λ waits e less. nothing-read p)
-      (λ none. weighed-read p allowed (withSample (s .weighing) z stable) range)
-      (λ none. nothing-read p)
+      (λ none e. nothing-read p)
+      (λ none e. weighed-read p allowed (withSample (s .weighing) z stable) range)
+      (λ none e.
+      change-cases (ReadIn p) p (sampledState s z stable)
+      (λ out told. nothing-read p)
+      (λ out first. weighed-read p allowed (withSample (s .weighing) z stable) range)
+      (λ inside due. weighed-read p allowed (withSample (s .weighing) z stable) range)
+      (λ inside due. nothing-read p))

@@ -48,6 +48,45 @@ not-below (negsuc a) (negsuc b) e = le-leb a b (ltb-false b a e)
 pub tare-range : (p : Profile) (s : State) → stateAllowed p s ≡ true → s .weighing .tare .0 ≤ p .capacity
 tare-range p s allowed = allowed-state p s allowed .tare
 
+-- a net of a gross that S does not refuse, with a tare in its range, lies in -(U+C)..C
+pub net-within
+    : (p : Profile) (gross : ℤ) (tare : ℕ)
+    → ltZ (pos (p .capacity)) gross ≡ false
+    → ltZ gross (negℤ (pos (p .underload))) ≡ false
+    → tare ≤ p .capacity
+    → (leZ (negℤ (pos (p .underload + p .capacity))) (gross -ℤ pos tare) ≡ true) × (leZ (gross -ℤ pos tare) (pos (p .capacity)) ≡ true)
+net-within p gross tare over under range =
+    let lowest = p .underload + p .capacity in (
+      parts-le (negℤ (pos lowest)) (gross -ℤ pos tare)
+          (omega (
+            arith,
+            le-parts (negℤ (pos (p .underload))) gross (not-below gross (negℤ (pos (p .underload))) under),
+            difference-parts gross (pos tare),
+            up-pos tare,
+            down-pos tare,
+            up-negated (pos lowest),
+            down-negated (pos lowest),
+            up-pos lowest,
+            down-pos lowest,
+            up-negated (pos (p .underload)),
+            down-negated (pos (p .underload)),
+            up-pos (p .underload),
+            down-pos (p .underload),
+            up-pos (p .capacity),
+            down-pos (p .capacity),
+          )),
+      parts-le (gross -ℤ pos tare) (pos (p .capacity))
+          (omega (
+            arith,
+            le-parts gross (pos (p .capacity)) (not-below (pos (p .capacity)) gross over),
+            difference-parts gross (pos tare),
+            up-pos tare,
+            down-pos tare,
+            up-pos (p .capacity),
+            down-pos (p .capacity),
+          )),
+    )
+
 module _ (p : Profile) (allowed : profileAllowed p ≡ true) where
   -- a tare in its range
   pub tare-printable : (tare : ℕ) → tare ≤ p .capacity → printable (p .resolution) (pos tare) ≡ true
@@ -80,33 +119,5 @@ module _ (p : Profile) (allowed : profileAllowed p ≡ true) where
       → tare ≤ p .capacity
       → printable (p .resolution) (gross -ℤ pos tare) ≡ true
   net-printable gross tare over under range =
-      let lowest = p .underload + p .capacity in
-      nets-printable p allowed (gross -ℤ pos tare)
-      (parts-le (negℤ (pos lowest)) (gross -ℤ pos tare)
-      (omega (
-        arith,
-        le-parts (negℤ (pos (p .underload))) gross (not-below gross (negℤ (pos (p .underload))) under),
-        difference-parts gross (pos tare),
-        up-pos tare,
-        down-pos tare,
-        up-negated (pos lowest),
-        down-negated (pos lowest),
-        up-pos lowest,
-        down-pos lowest,
-        up-negated (pos (p .underload)),
-        down-negated (pos (p .underload)),
-        up-pos (p .underload),
-        down-pos (p .underload),
-        up-pos (p .capacity),
-        down-pos (p .capacity),
-      )))
-      (parts-le (gross -ℤ pos tare) (pos (p .capacity))
-      (omega (
-        arith,
-        le-parts gross (pos (p .capacity)) (not-below (pos (p .capacity)) gross over),
-        difference-parts gross (pos tare),
-        up-pos tare,
-        down-pos tare,
-        up-pos (p .capacity),
-        down-pos (p .capacity),
-      )))
+      let within = net-within p gross tare over under range in
+      nets-printable p allowed (gross -ℤ pos tare) (within .0) (within .1)

@@ -1,4 +1,5 @@
--- The tally follows a weighing: the same latest load and zero, and the same tare up to half a microgram if it is typed. One law
+-- The tally follows a weighing: the same latest load and zero, and the same tare up to half a microgram if it is typed, rounded to the
+-- microgram then. One law
 -- for each kind of answer, used both where a line ends and where a sample ends a wait.
 -- Assumes nothing.
 use Prim.Native.Nat.{_+_, _≤_}
@@ -12,6 +13,7 @@ use Rattle.weighing.specs.Weighings.{grossOf, netOf}
 use Rattle.weight.specs.Rounding.{allowedResolution, stepFemtograms, printedFemtograms, exactFemtograms, placesOf, Near}
 use Rattle.weight.proofs.HalfStep.{half-step, exact-difference}
 use Rattle.weight.proofs.Nearness.{near-weaken, near-triangle, near-shift}
+use Rattle.history.specs.OnChange.{roundedTare}
 use Rattle.history.specs.Tally.{Tally, Latest, none, load, latestOf, isLoaded, allowance}
 
 -- the latest load, as the tally keeps it
@@ -22,6 +24,7 @@ pub record Follows (w : Weighing) (t : Tally) : Type 0 where
   pub latest : t .latest ≡ latestIn w
   pub zero : t .zero ≡ w .zero .0
   pub tare : Near (cond (t .typed) 1_000_000_000 0) (exactFemtograms (pos (w .tare .0))) (t .tare)
+  pub rounded : w .tare .0 ≡ roundedTare t
 
 module _ (w : Weighing) (t : Tally) (f : Follows w t) (sampled : w .sampled ≡ true) where
   pub is-loaded : isLoaded t ≡ true

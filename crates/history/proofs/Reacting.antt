@@ -12,35 +12,38 @@ use Rattle.answer.specs.Commands.{nameOf, needsSample, placeT, placeTI, placeZ,
 use Rattle.model.specs.declared.profile.Profile.{Profile}
 use Rattle.model.specs.declared.react.Reaction.{Reaction}
 use Rattle.model.specs.declared.state.Pending.{Pending}
-use Rattle.model.specs.declared.state.Pending.the-variants.{Nothing, Weigh, Zero, Tare}
+use Rattle.model.specs.declared.state.Pending.the-variants.{Nothing, Weigh, Zero, Tare, Change}
 use Rattle.model.specs.declared.state.State.{State}
 use Rattle.weight.specs.declared.loads.Load.{Load}
 use Rattle.model.specs.declared.weighing.Weighing.{Weighing}
 use Rattle.device.specs.Calls.{answerBytes}
 use Rattle.model.specs.Profiles.{profileAllowed}
-use Rattle.commands.specs.Reactions.{weighing, run, identificationOf, resetState, performed, situationOf}
-use Rattle.model.specs.Groups.{withWaiting, withRepeating, reaction, chosenReaction}
-use Rattle.waiting.specs.Waits.{measuredReaction, settled, begun, placeOfPending, sampleReaction}
-use Rattle.weighing.specs.Weighings.{stability, grossOf, numberOf, withSample}
+use Rattle.commands.specs.Reactions.{weighing, run, changing, identificationOf, resetState, performed, sendingAs, situationOf}
+use Rattle.model.specs.declared.sending.Mode.the-variants.{Off}
+use Rattle.model.specs.Groups.{withWaiting, withSending, reaction, chosenReaction}
+use Rattle.waiting.specs.Changes.{withThreshold}
+use Rattle.waiting.specs.Waits.{settled, settledReaction, begun, placeOfPending, sampledState, sampleReaction}
+use Rattle.weighing.specs.Weighings.{stability, grossOf, numberOf, weighed, withSample}
 use Rattle.line.specs.declared.judge.Verdict.{Verdict}
 use Rattle.line.specs.declared.judge.Verdict.the-variants.{Erroneous, Reset, Busy, Wrong, NoSample, Run, Preset, Show}
+use Rattle.line.specs.declared.judge.Verdict.the-variants as verdicts
 use Rattle.line.specs.declared.receive.Line.{Line}
 use Rattle.line.specs.Unbounded.{Marked, endsUnbounded, finishedLine}
 use Rattle.weight.proofs.Allowed.{both-right}
 use Rattle.weight.proofs.Nearness.{near-refl}
 use Rattle.history.specs.Tally.{Tally, Input, byteIs, sampleIs, taken, ends, endedText, isResetLine, afterReset, withTareOf}
 use Rattle.history.proofs.AnswerKinds.{Silent, nothing-silent, error-silent, list-silent, versions-silent, shown-silent, weight-shown-silent, unready-silent, wrong-silent, text-silent, zeroed-zeroes, zeroed-now-zeroes, tared-tares, tared-now-tares}
-use Rattle.history.proofs.Answering.{Answered, answered-silent, answered-quietly, answered-zeroed, answered-cleared, answered-weighed, answered-tared, answered-told, answered-typed, zero-exact}
+use Rattle.history.proofs.Answering.{Answered, answered-silent, answered-quietly, answered-zeroed, answered-cleared, answered-weighed, answered-tared, answered-told, answered-typed, zero-exact, zero-rounded}
 use Rattle.history.proofs.Following.{Follows}
 use Rattle.history.proofs.Verdicts.{Says}
-use Rattle.history.proofs.Ways.{Ruled, run-cases, sample-cases}
+use Rattle.history.proofs.Ways.{Ruled, run-cases, change-cases, sample-cases}
 use Rattle.history.proofs.WeightLines.{tared-shows, tared-now-shows}
 
 -- the tally accepts a reaction, and follows its weighing
 abbrev pub Reacted : Profile → Tally → Input → Reaction → Type 0
 Reacted p t i r = Answered p t i (r .state .weighing) (answerBytes p (r .answer))
 
--- ---- S, Z and T at a stable sample, and the commands that wait for one
+-- ---- S, Z, T and SR at a stable sample, and the commands that wait for one
 
 module _
     (p : Profile)
@@ -65,6 +68,7 @@ module _
         (rw stable (tared-tares p (numberOf p (grossOf w))))
         (rw stable (tared-shows p (grossOf w)))
         sampled
+    settled-answered w Change f range sampled stable = answered-weighed p t i w not-reset f allowed range sampled
 
     module _
         (s : State)
@@ -77,8 +81,9 @@ module _
             → s .weighing .stable ≡ stable
             → Reacted p t i
             (chosenReaction (sampled && stable)
-            (measuredReaction s (settled p pending (s .weighing)))
+            (settledReaction p s pending)
             (reaction (withWaiting s (record { pending = pending; unstable = 0 })) answers.Nothing))
+        unfolding settledReaction
         begun-by true true pending h k = settled-answered (s .weighing) pending f range h k
         begun-by true false pending h k = answered-quietly p t i (s .weighing) not-reset f _ (nothing-silent p)
         begun-by false stable pending h k = answered-quietly p t i (s .weighing) not-reset f _ (nothing-silent p)
@@ -87,6 +92,12 @@ module _
         begun-reacted : (pending : Pending) → Reacted p t i (begun p s pending)
         unfolding begun
         begun-reacted pending = begun-by (s .weighing .sampled) (s .weighing .stable) pending refl refl
+
+    -- SR
+    change-reacted : (s : State) → Follows (s .weighing) (taken t i) → s .weighing .tare .0 ≤ p .capacity → (threshold : ℕ)
+        → Reacted p t i (changing p s threshold)
+    unfolding changing
+    change-reacted s f range threshold = begun-reacted (withSending s (withThreshold (s .sending) threshold)) f range Change
 
     -- ---- a command's own rule
 
@@ -104,12 +115,13 @@ module _
             (answered-quietly p t i (s .weighing) not-reset f _ (list-silent p))
             (answered-quietly p t i (s .weighing) not-reset f _ (versions-silent p))
             (λ text. answered-quietly p t i (s .weighing) not-reset f _ (text-silent p c (both-right (leb placeI2 c) (leb c placeI5) text)))
-            (λ is. begun-reacted (withRepeating s false) f range Weigh)
-            (λ needs. answered-weighed p t i (s .weighing) not-reset f allowed range (sample needs))
+            (λ is. begun-reacted (sendingAs s Off) f range Weigh)
+            (λ needs now. answered-weighed p t i (s .weighing) not-reset f allowed range (sample needs))
             (λ is. begun-reacted s f range Zero)
             (λ needs.
             answered-zeroed p t i (s .weighing) not-reset f placeZI (stability (s .weighing)) (zeroed-now-zeroes p (s .weighing .stable)) (sample needs))
             (answered-quietly p t i (s .weighing) not-reset f _ (weight-shown-silent p))
+            (λ is. change-reacted s f range 0)
             (λ is. begun-reacted s f range Tare)
             (λ needs.
             answered-tared p t i (s .weighing) not-reset f allowed placeTI
@@ -133,7 +145,7 @@ module _
   where
     -- the byte leaves the weighing alone
     byte-followed : Follows (s .weighing) (taken t (byteIs m))
-    byte-followed = record { latest = f .latest; zero = f .zero; tare = f .tare }
+    byte-followed = record { latest = f .latest; zero = f .zero; tare = f .tare; rounded = f .rounded }
 
     -- a line other than @ resets nothing
     no-reset : isResetLine (finishedLine (t .line)) ≡ false → afterReset t (byteIs m) (taken t (byteIs m)) ≡ taken t (byteIs m)
@@ -148,7 +160,7 @@ module _
     -- the tare is 0 on both sides
     reset-followed : isResetLine (finishedLine (t .line)) ≡ true → Follows (resetState s .weighing) (afterReset t (byteIs m) (taken t (byteIs m)))
     unfolding resetState
-    reset-followed reset = rw (a-reset reset) (record { latest = f .latest; zero = f .zero; tare = rw zero-exact (near-refl 0 (pos 0)) })
+    reset-followed reset = rw (a-reset reset) (record { latest = f .latest; zero = f .zero; tare = rw zero-exact (near-refl 0 (pos 0)); rounded = zero-rounded })
 
     -- what each verdict makes of the state
     pub performed-reacted
@@ -158,14 +170,15 @@ module _
     performed-reacted l (Erroneous e) says = answered-quietly p t (byteIs m) (s .weighing) (no-reset says) byte-followed _ (error-silent p e)
     performed-reacted l Reset says = answered-silent p t (byteIs m) _ _ (reset-followed says) (text-silent p placeI4 refl)
     performed-reacted l (Busy c) says = answered-quietly p t (byteIs m) (s .weighing) (no-reset says) byte-followed _ (unready-silent p (identificationOf c))
-    performed-reacted l (Wrong c) says = answered-quietly p t (byteIs m) (s .weighing) (no-reset says) byte-followed _ (wrong-silent p c)
+    performed-reacted l (Wrong c) says = answered-quietly p t (byteIs m) (s .weighing) (no-reset says) byte-followed _ (wrong-silent p (identificationOf c))
     performed-reacted l (NoSample c) says = answered-quietly p t (byteIs m) (s .weighing) (no-reset says) byte-followed _ (unready-silent p (identificationOf c))
     performed-reacted l (Run c) says =
         run-reacted p allowed t (byteIs m) (no-reset (says .other)) s byte-followed range c (says .may .sample) (says .may .ruled) end (says .text)
     performed-reacted l (Preset n) says =
         let typed = says .typed in
         answered-typed p t (byteIs m) (s .weighing) (no-reset (says .other)) byte-followed allowed (n .0) end (says .more) (typed .decimal) (typed .near)
-        (typed .range)
+        (typed .rounded) (typed .range)
+    performed-reacted l (verdicts.Change n) says = change-reacted p allowed t (byteIs m) (no-reset says) s byte-followed range (n .0)
     performed-reacted l (Show n) says = answered-quietly p t (byteIs m) (s .weighing) (no-reset says) byte-followed _ (shown-silent p)
 
 -- ---- a byte that ends no line
@@ -177,7 +190,7 @@ module _ (p : Profile) (t : Tally) (m : Marked) (w : Weighing) (f : Follows w t)
 
   pub byte-answered : Answered p t (byteIs m) w (answerBytes p answers.Nothing)
   byte-answered =
-      answered-quietly p t (byteIs m) w still (record { latest = f .latest; zero = f .zero; tare = f .tare }) _ (nothing-silent p)
+      answered-quietly p t (byteIs m) w still (record { latest = f .latest; zero = f .zero; tare = f .tare; rounded = f .rounded }) _ (nothing-silent p)
 
 -- ---- a sample
 
@@ -197,13 +210,19 @@ module _
 
     -- the load is the latest on both sides
     sample-followed : (stable : Bool) → Follows (withSample (s .weighing) z stable) (taken t (sampleIs (z .0) stable))
-    sample-followed stable = record { latest = refl; zero = f .zero; tare = f .tare }
+    sample-followed stable = record { latest = refl; zero = f .zero; tare = f .tare; rounded = f .rounded }
 
     -- an answer that grants and weighs nothing
     passed-over : (stable : Bool) (l : List ℕ) → Silent l → Answered p t (sampleIs (z .0) stable) (withSample (s .weighing) z stable) l
     passed-over stable l = answered-quietly p t (sampleIs (z .0) stable) (withSample (s .weighing) z stable) (sample-not-reset stable) (sample-followed stable) l
 
+    -- the weight of the sample
+    weight-sent : (stable : Bool) → Answered p t (sampleIs (z .0) stable) (withSample (s .weighing) z stable) (answerBytes p (weighed p (withSample (s .weighing) z stable)))
+    weight-sent stable =
+        answered-weighed p t (sampleIs (z .0) stable) (withSample (s .weighing) z stable) (sample-not-reset stable) (sample-followed stable) allowed range refl
+
     pub sample-reacted : (stable : Bool) → Reacted p t (sampleIs (z .0) stable) (sampleReaction p s z stable)
+    unfolding settledReaction
     sample-reacted stable =
         sample-cases (Reacted p t (sampleIs (z .0) stable)) p s z stable
         (λ waits e.
@@ -211,6 +230,11 @@ module _
         (sample-followed stable) range refl e)
         (λ waits e most. passed-over stable _ (unready-silent p (placeOfPending (s .waiting .pending))))
         (λ waits e less. passed-over stable _ (nothing-silent p))
-        (λ none.
-        answered-weighed p t (sampleIs (z .0) stable) (withSample (s .weighing) z stable) (sample-not-reset stable) (sample-followed stable) allowed range refl)
-        (λ none. passed-over stable _ (nothing-silent p))
+        (λ none e. passed-over stable _ (nothing-silent p))
+        (λ none e. weight-sent stable)
+        (λ none e.
+        change-cases (Reacted p t (sampleIs (z .0) stable)) p (sampledState s z stable)
+        (λ out told. passed-over stable _ (nothing-silent p))
+        (λ out first. weight-sent stable)
+        (λ inside due. weight-sent stable)
+        (λ inside due. passed-over stable _ (nothing-silent p)))

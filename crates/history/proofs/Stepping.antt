@@ -17,7 +17,7 @@ use Rattle.device.specs.Calls.{answerBytes, ByteCalled, SampleCalled}
 use Rattle.model.specs.Profiles.{profileAllowed}
 use Rattle.commands.specs.Reactions.{performed, byteReaction, situationOf}
 use Rattle.model.specs.Groups.{withLine, chosenReaction, reaction}
-use Rattle.waiting.specs.Waits.{sampleReaction}
+use Rattle.waiting.specs.Waits.{sampledState, settledReaction, sampleReaction}
 use Rattle.model.specs.States.{stateAllowed, startState}
 use Rattle.line.specs.declared.receive.Line.{Line}
 use Rattle.line.specs.Receiving.{clearedLine, receivedByte}
@@ -28,7 +28,7 @@ use Rattle.model.proofs.StateFacts.{start-allowed}
 use Rattle.weight.proofs.Nearness.{near-refl}
 use Rattle.history.specs.Claim.{byteEvent, sampleEvent}
 use Rattle.history.specs.Tally.{Event, Input, byteIs, sampleIs, Tally, startTally, taken, afterEvent, eventHolds}
-use Rattle.history.proofs.Answering.{zero-exact}
+use Rattle.history.proofs.Answering.{zero-exact, zero-rounded}
 use Rattle.history.proofs.DueWeights.{tare-range}
 use Rattle.history.proofs.Following.{Follows}
 use Rattle.history.proofs.Reacting.{Reacted, performed-reacted, byte-answered, sample-reacted}
@@ -37,7 +37,7 @@ use Rattle.history.proofs.Verdicts.{verdict-says, verdict-ruled}
 use Rattle.history.proofs.StaysAllowed.{byte-allowed, sample-allowed}
 use Rattle.history.proofs.Delivering.{Delivered, given, withheld, byte-delivered, sample-delivered}
 use Rattle.history.proofs.Performing.{same-line, performed-kind}
-use Rattle.history.proofs.Ways.{sample-cases}
+use Rattle.history.proofs.Ways.{change-cases, sample-cases}
 
 -- the tally follows an allowed state: its line and its weighing
 pub record FollowsState (p : Profile) (s : State) (t : Tally) : Type 0 where
@@ -52,7 +52,7 @@ start-followed p =
     record {
       allowed = start-allowed p;
       line = keeps-empty;
-      weighing = record { latest = refl; zero = refl; tare = rw zero-exact (near-refl 0 (pos 0)) };
+      weighing = record { latest = refl; zero = refl; tare = rw zero-exact (near-refl 0 (pos 0)); rounded = zero-rounded };
     }
 
 -- the tally accepts a call, and follows the state that it returned
@@ -130,8 +130,10 @@ module _ (p : Profile) (profile : profileAllowed p ≡ true) (s : State) (t : Ta
 
 -- which leaves the line alone
 sample-line : (p : Profile) (s : State) (z : Load) (stable : Bool) → sampleReaction p s z stable .state .line ≡ s .line
+unfolding settledReaction
 sample-line p s z stable =
-    sample-cases (λ x. x .state .line ≡ s .line) p s z stable (λ w e. refl) (λ w e m. refl) (λ w e l. refl) (λ n. refl) (λ n. refl)
+    sample-cases (λ x. x .state .line ≡ s .line) p s z stable (λ w e. refl) (λ w e m. refl) (λ w e l. refl) (λ n e. refl) (λ n e. refl)
+    (λ n e. change-cases (λ x. x .state .line ≡ s .line) p (sampledState s z stable) (λ o t. refl) (λ o t. refl) (λ i d. refl) (λ i d. refl))
 
 module _ (p : Profile) (profile : profileAllowed p ≡ true) (s : State) (t : Tally) (kept : FollowsState p s t) (z : Load) (stable : Bool) where
   -- the sample call

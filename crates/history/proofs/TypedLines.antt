@@ -2,7 +2,7 @@
 -- Assumes nothing.
 use Prim.Native.Nat.{ℕ, _≤_}
 use native.Mathlib.Omega.{arith}
-use mathlib.Core.Path.{_≡_, refl, ap}
+use mathlib.Core.Path.{_≡_, refl, ap, _∙_}
 use mathlib.Core.Bool.{Bool, true, false, cond}
 use mathlib.Core.List.{List}
 use lib.Dec.{leb}
@@ -12,18 +12,19 @@ use Rattle.weight.specs.declared.units.WeightUnit.{WeightUnit}
 use Rattle.weight.specs.declared.amount.Tare.{Tare}
 use Rattle.weight.specs.declared.amount.Typed.the-variants.{Amount, TooLarge, NotTyped}
 use Rattle.text.specs.Reading.{isDecimal, decimalsIn, valueIn}
-use Rattle.weight.specs.Rounding.{exactFemtograms, Near}
+use Rattle.weight.specs.Rounding.{exactFemtograms, halfUp, Near}
 use Rattle.weight.specs.Amounts.{typedMicrograms, typedFemtograms, largestCapacity, amountOf}
 use Rattle.text.specs.Typed.{isTyped, readTyped}
 use Rattle.weight.proofs.Allowed.{both-right}
 use Rattle.text.proofs.DecimalText.{decimals-limit}
-use Rattle.weight.proofs.HalfStep.{typed-near}
+use Rattle.weight.proofs.HalfStep.{typed-near, typed-rounded}
 
--- a typed number that C allows: it is a decimal, it is stored as a number up to C, and that is near what was typed
+-- a typed number that C allows: it is a decimal, it is stored as a number up to C, and that is near what was typed and the nearest
 pub record TypedAs (capacity : ℕ) (u : WeightUnit) (t : List ℕ) (m : ℕ) : Type 0 where
   pub decimal : isDecimal t ≡ true
   pub range : m ≤ capacity
   pub near : Near 1_000_000_000 (exactFemtograms (pos m)) (pos (typedFemtograms u (decimalsIn t) (valueIn t)))
+  pub rounded : m ≡ halfUp (typedFemtograms u (decimalsIn t) (valueIn t)) 1_000_000_000
 
 typed-decimal : (t : List ℕ) → isTyped t ≡ true → isDecimal t ≡ true
 unfolding isTyped
@@ -51,4 +52,5 @@ module _ (capacity : ℕ) (u : WeightUnit) (t : List ℕ) (m : Tare) where
         decimal = d;
         range = h;
         near = rw (read .1) (typed-near u (decimalsIn t) (valueIn t) (decimals-limit t d));
+        rounded = read .1 ∙ typed-rounded u (decimalsIn t) (valueIn t) (decimals-limit t d);
       }

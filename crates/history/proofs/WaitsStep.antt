@@ -12,12 +12,13 @@ use Rattle.answer.specs.Lines.{headText, lineOf, headOf}
 use Rattle.model.specs.declared.profile.Profile.{Profile}
 use Rattle.model.specs.declared.react.Reaction.{Reaction}
 use Rattle.model.specs.declared.state.Pending.{Pending}
-use Rattle.model.specs.declared.state.Pending.the-variants.{Nothing, Weigh, Zero, Tare}
+use Rattle.model.specs.declared.state.Pending.the-variants.{Nothing, Weigh, Zero, Tare, Change}
 use Rattle.model.specs.declared.state.State.{State}
 use Rattle.weight.specs.declared.loads.Load.{Load}
 use Rattle.device.specs.Calls.{answerBytes}
-use Rattle.model.specs.Groups.{withLine, withWaiting, reaction, notWaiting}
-use Rattle.waiting.specs.Waits.{sampledState, measuredReaction, placeOfPending, settled, sampleReaction}
+use Rattle.model.specs.Groups.{withLine, withSending, withWaiting, reaction, notWaiting}
+use Rattle.waiting.specs.Changes.{goneOutside, keptInside, sent}
+use Rattle.waiting.specs.Waits.{sampledState, placeOfPending, settledReaction, sampleReaction}
 use Rattle.commands.specs.Reactions.{situationOf}
 use Rattle.model.specs.States.{isPending, stateAllowed}
 use Rattle.weighing.specs.Weighings.{weighed}
@@ -25,13 +26,13 @@ use Rattle.line.specs.declared.judge.Verdict.{Verdict}
 use Rattle.line.specs.declared.receive.Line.{Line}
 use Rattle.line.specs.Unbounded.{Marked, byteIn, endsUnbounded, finishedLine, judgementOf}
 use Rattle.line.proofs.Kept.{Keeps}
-use Rattle.line.proofs.Verdicts.{run-line}
+use Rattle.line.proofs.Verdicts.{run-line, change-line}
 use Rattle.model.proofs.StateFacts.{allowed-state}
 use Rattle.history.specs.Tally.{Input, byteIs, sampleIs, isResetLine}
-use Rattle.history.specs.Waits.{Waits, nothing, command, isAwaiting, isEmpty, mayWait, afterLine, afterInput, byteHolds, awaitedHolds, inputHolds}
-use Rattle.history.proofs.Ways.{sample-cases}
+use Rattle.history.specs.Waits.{Waits, nothing, command, isAwaiting, isEmpty, mayWait, identificationIn, afterLine, afterInput, byteHolds, awaitedHolds, inputHolds}
+use Rattle.history.proofs.Ways.{change-cases, sample-cases}
 use Rattle.history.proofs.SentAnswers.{isSilent, silent-empty}
-use Rattle.history.proofs.Performing.{Performed, answered, dropped, begins, awaitedOf, awaiting-is, settled-sent, settled-own}
+use Rattle.history.proofs.Performing.{Performed, answered, dropped, begins, changes, awaitedOf, awaiting-is, settled-sent, settled-own}
 use Rattle.history.proofs.Verdicts.{resets, reset-test}
 
 -- ---- the definitions, by whether a line ended
@@ -57,6 +58,7 @@ none-awaited Nothing e = refl
 none-awaited Weigh e = absurd (true≢false e)
 none-awaited Zero e = absurd (true≢false e)
 none-awaited Tare e = absurd (true≢false e)
+none-awaited Change e = absurd (true≢false e)
 
 nothing-stays : (b : Bool) → cond b nothing nothing ≡ nothing
 nothing-stays true = refl
@@ -90,13 +92,13 @@ module _ (p : Profile) (s : State) (w : Waits) (m : Marked) (x : Reaction) (old 
             (record { allowed = allowed; line = empty; waiting = rw full waiting; counted = rw full counted });
       }
 
-  -- it was S, T or Z, and waits from now on
+  -- it was S, T, Z or SR, and waits from now on
   begins-reacts : (pending : Pending)
       → isResetLine (finishedLine (w .line)) ≡ false
       → isSilent (x .answer) ≡ true
       → isPending (s .waiting .pending) ≡ false
       → mayWait (finishedLine (w .line)) ≡ true
-      → awaitedOf pending ≡ command (map byteIn (finishedLine (w .line)))
+      → awaitedOf pending ≡ command (identificationIn (map byteIn (finishedLine (w .line))))
       → x .state .waiting ≡ record { pending = pending; unstable = 0 }
       → Reacts p w (byteIs m) x
   begins-reacts pending noreset silent free may waits now =
@@ -143,6 +145,15 @@ module _ (p : Profile) (s : State) (w : Waits) (m : Marked) (x : Reaction) (old 
       (rw (was .line .good, was .line .bytes) named)
       (rw (was .line .bytes) waits)
       now
+  ended-reacts v e t same (changes threshold runs silent now line) =
+      let was = change-line (situationOf p s) (finishedLine (w .line)) (sym e ∙ runs) in
+      begins-reacts Change
+      (is-reset v e ∙ ap resets runs)
+      silent
+      (was .free)
+      (rw (was .line .good, was .line .bytes))
+      (rw (was .line .bytes))
+      now
 
 -- ---- a byte that ends no line
 
@@ -159,7 +170,7 @@ joined-reacts p s w m l old allowed on keeps =
 
 -- ---- a sample
 
--- the W-th unstable sample: S I, T I or Z I, as the command is that waits
+-- the W-th unstable sample: S I, T I or Z I, as the command is that waits; S I for SR
 timeout-answer : (p : Profile) (n : ℕ) (pending : Pending) → suc n ≡ p .timeout
     → awaitedHolds p n (awaitedOf pending) false (answerBytes p (answers.Plain (headOf (placeOfPending pending) I))) ≡ true
 unfolding answerBytes lineOf headText
@@ -167,6 +178,7 @@ timeout-answer p n Nothing e = refl
 timeout-answer p n Weigh e = rw (eq-eqb (suc n) (p .timeout) e)
 timeout-answer p n Zero e = rw (eq-eqb (suc n) (p .timeout) e)
 timeout-answer p n Tare e = rw (eq-eqb (suc n) (p .timeout) e)
+timeout-answer p n Change e = rw (eq-eqb (suc n) (p .timeout) e)
 
 -- one before it: no answer
 counted-answer : (p : Profile) (n : ℕ) (pending : Pending) → (suc n ≡ p .timeout → ⊥)
@@ -176,6 +188,7 @@ counted-answer p n Nothing e = refl
 counted-answer p n Weigh e = rw (ne-eqb (suc n) (p .timeout) e)
 counted-answer p n Zero e = rw (ne-eqb (suc n) (p .timeout) e)
 counted-answer p n Tare e = rw (ne-eqb (suc n) (p .timeout) e)
+counted-answer p n Change e = rw (ne-eqb (suc n) (p .timeout) e)
 
 timeout-full : (p : Profile) (c : ℕ) → isEmpty (answerBytes p (answers.Plain (headOf c I))) ≡ false
 timeout-full p c = silent-empty p (answers.Plain (headOf c I))
@@ -264,16 +277,23 @@ module _ (p : Profile) (s : State) (w : Waits) (z : Load) (stable : Bool) (old :
 -- a sample, if the state after it is allowed
 pub sample-reacts : (p : Profile) (s : State) (w : Waits) (z : Load) (stable : Bool) → Follows p s w
     → stateAllowed p (sampleReaction p s z stable .state) ≡ true → Reacts p w (sampleIs (z .0) stable) (sampleReaction p s z stable)
+unfolding settledReaction
 sample-reacts p s w z stable old =
     let t : State = sampledState s z stable in
     sample-cases (λ x. stateAllowed p (x .state) ≡ true → Reacts p w (sampleIs (z .0) stable) x) p s z stable
     (λ waits e.
-    stable-reacts p s w z stable old waits (measuredReaction (withWaiting t notWaiting) (settled p (s .waiting .pending) (t .weighing))) e
+    stable-reacts p s w z stable old waits (settledReaction p (withWaiting t notWaiting) (s .waiting .pending)) e
     (settled-sent p (s .waiting .pending) (t .weighing) waits)
     (settled-own p (w .unstable) (s .waiting .pending) (t .weighing) e)
     refl
     refl)
     (λ waits e most. last-reacts p s w z stable old waits t e refl most)
     (λ waits e less. counted-reacts p s w z stable old waits t e refl less)
-    (λ free. free-reacts p s w z stable old (reaction t (weighed p (t .weighing))) free refl refl)
-    (λ free. free-reacts p s w z stable old (reaction t answers.Nothing) free refl refl)
+    (λ free e. free-reacts p s w z stable old (reaction t answers.Nothing) free refl refl)
+    (λ free e. free-reacts p s w z stable old (reaction t (weighed p (t .weighing))) free refl refl)
+    (λ free e.
+    change-cases (λ x. stateAllowed p (x .state) ≡ true → Reacts p w (sampleIs (z .0) stable) x) p t
+    (λ out told. free-reacts p s w z stable old (reaction (withSending t (goneOutside (t .sending))) answers.Nothing) free refl refl)
+    (λ out first. free-reacts p s w z stable old (reaction (withSending t (goneOutside (t .sending))) (weighed p (t .weighing))) free refl refl)
+    (λ inside due. free-reacts p s w z stable old (reaction (withSending t (sent (t .weighing) (t .sending))) (weighed p (t .weighing))) free refl refl)
+    (λ inside due. free-reacts p s w z stable old (reaction (withSending t (keptInside (t .sending))) answers.Nothing) free refl refl))

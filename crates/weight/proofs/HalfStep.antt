@@ -3,19 +3,20 @@
 use Prim.Native.Nat.{ℕ, suc, _+_, _-_, _*_, _^_, _≤_, _<_}
 use native.Mathlib.Nat.{mul-le-mul-right, mul-pos, mul-assoc, add-sub-of-le}
 use native.Mathlib.Omega.{arith}
-use mathlib.Core.Path.{_≡_, ap}
+use mathlib.Core.Path.{_≡_, sym, ap}
 use mathlib.Core.Bool.{true}
 use lib.Pow.{pow-add}
-use lib.IntN.{ℤ, pos, negsuc, _-ℤ_}
+use lib.IntN.{ℤ, pos, negsuc, natAbs, _-ℤ_}
 use Rattle.weight.specs.declared.units.WeightUnit.{WeightUnit}
 use Rattle.weight.specs.declared.rounding.Resolution.{Resolution}
 use Rattle.weight.specs.Units.{nanogramsOf}
 use Rattle.weight.specs.Rounding.{allowedResolution, halfUp, placesOf, placeFemtograms, stepFemtograms, printedFemtograms, exactFemtograms, Near}
 use Rattle.weight.specs.Amounts.{typedMicrograms, typedFemtograms}
 use Rattle.weight.proofs.Allowed.{allowed-decimals, allowed-divisor-positive, power-positive}
-use Rattle.weight.proofs.HalfUp.{half-up-not-over, half-up-near}
+use Rattle.weight.proofs.HalfUp.{half-up-not-over, half-up-near, half-up-only, half-up-tie-up}
 use Rattle.weight.proofs.Monotone.{naturalPlaces, places-of-pos, places-of-negsuc, times-odd}
 use Rattle.weight.proofs.Nearness.{near-naturals, near-negated, near-triangle, near-shift, difference-times}
+use Rattle.weight.proofs.Range.{size-product}
 
 -- ---- the printed number
 
@@ -106,6 +107,29 @@ typed-near u d v h =
     v
     (scale-split d h)
     (mul-pos {m = 1000} (omega arith) (power-positive d)))
+
+-- s and e are the two scales, t their product: rounding a number and rounding it in finer parts are the same
+scaled-rounded : (m s e t : ℕ) → s * e ≡ t → 0 < s → 0 < e → halfUp (m * e) t ≡ halfUp m s
+scaled-rounded m s e t scales h k =
+    half-up-only (m * e) t (halfUp m s)
+    (rw (← scales) (mul-pos h k))
+    (omega (arith, mul-le-mul-right e (half-up-not-over m s), ap (λ (x : ℕ). x * halfUp m s) scales, scales))
+    (omega (arith, mul-le-mul-right e (half-up-tie-up m s h), ap (λ (x : ℕ). x * halfUp m s) scales, scales))
+
+-- what a typed number is stored as is the nearest microgram of its femtograms, a tie upwards
+pub typed-rounded : (u : WeightUnit) (d v : ℕ) → d ≤ 6 → typedMicrograms u d v ≡ halfUp (typedFemtograms u d v) 1_000_000_000
+unfolding typedMicrograms typedFemtograms
+typed-rounded u d v h =
+    sym (scaled-rounded (v * nanogramsOf u) (1000 * 10 ^ d) (10 ^ (6 - d)) 1_000_000_000 (scale-split d h)
+    (mul-pos {m = 1000} (omega arith) (power-positive d))
+    (power-positive (6 - d)))
+
+-- and so is a number of whole micrograms
+pub rounded-exact : (z : ℤ) → halfUp (natAbs (exactFemtograms z)) 1_000_000_000 ≡ natAbs z
+unfolding exactFemtograms
+rounded-exact z =
+    rw (size-product z 1_000_000_000)
+    (half-up-only (natAbs z * 1_000_000_000) 1_000_000_000 (natAbs z) (omega arith) (omega arith) (omega arith))
 
 -- ---- a stored tare that is half a microgram off
 

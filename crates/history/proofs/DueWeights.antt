@@ -3,7 +3,7 @@
 use Prim.Native.Nat.{ℕ, _+_, _≤_}
 use native.Mathlib.Omega.{arith}
 use mathlib.Core.Path.{_≡_, refl}
-use mathlib.Core.Bool.{true, false, true≢false, false≢true}
+use mathlib.Core.Bool.{true, false, _&&_, true≢false, false≢true}
 use borrow.Author.Tests.{leb-true, le-leb, ltb-false}
 use lib.IntN.{ℤ, pos, negsuc, negℤ, natAbs, _-ℤ_}
 use lib.Signed.{leZ, ltZ}
@@ -12,9 +12,12 @@ use Rattle.model.specs.declared.state.State.{State}
 use Rattle.model.specs.Profiles.{profileAllowed}
 use Rattle.model.specs.States.{stateAllowed}
 use Rattle.model.proofs.Nets.{nets-printable}
+use Rattle.model.proofs.ProfileFacts.{allowed-profile}
 use Rattle.model.proofs.StateFacts.{allowed-state}
 use Rattle.weighing.proofs.Reach.{between}
 use Rattle.weight.specs.Printing.{printable}
+use Rattle.weight.specs.Rounding.{inRange, netLimit}
+use Rattle.weight.proofs.Allowed.{both-left, both-right}
 use Rattle.weight.proofs.Nearness.{up, down, up-pos, down-pos, up-negated, down-negated, difference-parts}
 
 -- ---- the order of whole numbers
@@ -121,3 +124,25 @@ module _ (p : Profile) (allowed : profileAllowed p ≡ true) where
   net-printable gross tare over under range =
       let within = net-within p gross tare over under range in
       nets-printable p allowed (gross -ℤ pos tare) (within .0) (within .1)
+
+-- no number between the ends is farther from zero than the lower one
+size-within : (net : ℤ) (lowest highest : ℕ) → highest ≤ lowest → leZ (negℤ (pos lowest)) net ≡ true → leZ net (pos highest) ≡ true → natAbs net ≤ lowest
+unfolding up down
+size-within (pos n) lowest highest h l u = omega (arith, leb-true n highest u)
+size-within (negsuc n) lowest highest h l u =
+    omega (arith, le-parts (negℤ (pos lowest)) (negsuc n) l, up-negated (pos lowest), down-negated (pos lowest))
+
+-- a net between the ends is one that is rounded
+pub within-range
+    : (p : Profile) → profileAllowed p ≡ true → (net : ℤ)
+    → (leZ (negℤ (pos (p .underload + p .capacity))) net && leZ net (pos (p .capacity))) ≡ true
+    → inRange net ≡ true
+within-range p allowed net h =
+    let limits = allowed-profile p allowed .limits in
+    let lowest = p .underload + p .capacity in
+    let most = limits .capacity-most in
+    let least = limits .underload-most in
+    let size = size-within net lowest (p .capacity) (omega arith)
+    (both-left (leZ (negℤ (pos lowest)) net) (leZ net (pos (p .capacity))) h)
+    (both-right (leZ (negℤ (pos lowest)) net) (leZ net (pos (p .capacity))) h) in
+    le-leb (natAbs net) netLimit (omega (arith, size, most, least))

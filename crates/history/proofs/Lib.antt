@@ -8,11 +8,15 @@ mod DueWeights
 pub mod EndToEnd
 mod Following
 mod HostReads
+pub mod OnChange
 mod Performing
 mod Pieces
 mod Reacting
 pub mod Rejected
+mod SendsLine
+mod SendsSample
 mod SentAnswers
+mod SentHeads
 mod StaysAllowed
 mod Stepping
 mod Tallying

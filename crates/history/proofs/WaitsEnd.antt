@@ -39,7 +39,7 @@ keeps-on : (l : Line) (u : List Marked) (b : ℕ) (bad : Bool) → Keeps l u →
 keeps-on l u b bad k e = rw e at (keeps-byte l u k b bad e)
 
 -- a byte, if the state after it is allowed
-byte-reacts : (p : Profile) (s : State) (w : Waits) (b : ℕ) (bad : Bool) → Follows p s w
+pub byte-reacts : (p : Profile) (s : State) (w : Waits) (b : ℕ) (bad : Bool) → Follows p s w
     → stateAllowed p (byteReaction p s b bad .state) ≡ true → Reacts p w (byteIs (markedAs b bad)) (byteReaction p s b bad)
 unfolding byteReaction
 byte-reacts p s w b bad old =
@@ -97,7 +97,7 @@ step p profile =
           (sample-reacts p s w z stable old (sample-allowed p profile s (old .allowed) z stable));
     }
 
-start-follows : (p : Profile) → Follows p startState startWaits
+pub start-follows : (p : Profile) → Follows p startState startWaits
 unfolding startState
 start-follows p = record { allowed = start-allowed p; line = keeps-empty; waiting = refl; counted = λ e. refl }
 

@@ -7,12 +7,14 @@ use Rattle.answer.specs.Lines.{headText, weightText, lineOf}
 use Rattle.host.specs.Reads.{guessed, confirms, readLine}
 use Rattle.text.specs.Field.{fieldOf}
 use Rattle.text.specs.Reading.{isDecimal, decimalsIn, valueIn, isWritten, readNumber, readField}
+use Rattle.text.specs.Typed.{isTyped, readTyped}
 use Rattle.text.specs.UnitTexts.{firstNamed, unitNamed}
 use Rattle.weight.specs.Places.{lastDigits, digitsIn, digitsOf, decimalOf, numberText, widthOf, fitsField}
-use Rattle.weight.specs.Rounding.{placeFemtograms, stepFemtograms, exactFemtograms}
-use Rattle.weight.specs.Amounts.{typedFemtograms}
+use Rattle.weight.specs.Rounding.{halfUp, placeFemtograms, stepFemtograms, exactFemtograms}
+use Rattle.weight.specs.Amounts.{typedFemtograms, typedMicrograms, amountOf}
 use Rattle.history.specs.EndToEnd.{piecesAfter, piecesOf, piecesHold, hostAccepts}
-use Rattle.history.specs.Rejected.{weightRows, stateRows, waitRows, rows, allTell}
+use Rattle.history.specs.OnChange.{afterLine, sendsAfter, sendsHold, senderHolds}
+use Rattle.history.specs.Rejected.{weightRows, stateRows, waitRows, sentRows, sendingRows, rows, allTell}
 use Rattle.history.specs.Tally.{afterReset, granted, weightHolds, loadHolds, typedHolds, tallied, holds, afterEvent, eventHolds, accepts}
 use Rattle.history.specs.Waits.{waitsHold}
 
@@ -21,6 +23,8 @@ unfolding
     weightRows
     stateRows
     waitRows
+    sentRows
+    sendingRows
     rows
     allTell
     afterReset
@@ -34,6 +38,10 @@ unfolding
     eventHolds
     accepts
     waitsHold
+    afterLine
+    sendsAfter
+    sendsHold
+    senderHolds
     piecesAfter
     piecesOf
     piecesHold
@@ -66,4 +74,9 @@ unfolding
     stepFemtograms
     exactFemtograms
     typedFemtograms
+    typedMicrograms
+    amountOf
+    isTyped
+    readTyped
+    halfUp
 all-rejected = refl

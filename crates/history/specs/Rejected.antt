@@ -5,13 +5,14 @@ use Prim.Native.Nat.{ℕ}
 use Prim.Native.String.{String}
 use mathlib.Core.Bool.{Bool, true, false, not, _&&_}
 use mathlib.Core.List.{List, [], _∷_, _++_, map}
-use lib.IntN.{ℤ, pos}
+use lib.IntN.{ℤ, pos, negℤ}
 use Rattle.model.specs.declared.profile.Profile.{Profile}
 use Rattle.profiles.specs.ProfileA.{profileWith}
 use Rattle.text.specs.Ascii.{ascii}
 use Rattle.weight.specs.declared.rounding.Resolution.{Resolution}
 use Rattle.weight.specs.declared.units.WeightUnit.the-variants.{G, Oz, Gn}
 use Rattle.history.specs.EndToEnd.{hostAccepts}
+use Rattle.history.specs.OnChange.{startSender, senderHolds}
 use Rattle.history.specs.Tally.{Event, Input, byteIs, sampleIs, startTally, accepts}
 use Rattle.history.specs.Waits.{startWaits, waitsHold}
 
@@ -49,6 +50,7 @@ pub data Follower : Type 0 where
   tally : Follower
   waits : Follower
   host : Follower
+  sender : Follower
 
 pub record Row : Type 0 where
   pub follower : Follower
@@ -60,6 +62,7 @@ abbrev pub accepted : Follower → Profile → List Event → Bool
 accepted tally p es = accepts p startTally es
 accepted waits p es = waitsHold p startWaits es
 accepted host p es = hostAccepts p startTally es
+accepted sender p es = senderHolds p startSender es
 
 -- profile A, in grams with four decimals, in ounces with five and in grains with four
 abbrev pub inGrams : Follower → List Event → List Event → Row
@@ -157,12 +160,130 @@ waitRows =
     ∷ inGrams waits
     (line "Z" "" ++ taken (stable (pos 0)) "")
     (line "Z" "" ++ taken (stable (pos 0)) "Z A\r\n")
+    -- SR closed by its name
+    ∷ inGrams waits
+    (line "SR" "" ++ swings ++ taken (unstable (pos 0)) "SR I\r\n")
+    (line "SR" "" ++ swings ++ taken (unstable (pos 0)) "S I\r\n")
+    -- a word that begins with SR and waits
+    ∷ inGrams waits (line "SRX" "") (line "SR 1 g" "")
     -- a refusal by 2 along a list of calls
     ∷ inGrams waits (refused 2 (stable (pos 0))) (refused 3 (stable (pos 0)))
     ∷ []
 
+-- SR runs, from a load of nothing
+abbrev pub runs : List Event
+runs = taken (stable (pos 0)) "" ++ line "SR" "S S     0.0000 g\r\n"
+
+-- and has sent S D: an S S is owed
+abbrev pub owes : List Event
+owes = runs ++ taken (unstable (pos 5_000)) "S D     0.0050 g\r\n"
+
+unfoldable pub sentRows : List Row
+sentRows =
+    -- 30 display steps passed by in silence, and one microgram less sent
+    inGrams sender
+    (runs ++ taken (stable (pos 3_000)) "")
+    (runs ++ taken (stable (pos 3_000)) "S S     0.0030 g\r\n")
+    ∷ inGrams sender
+    (runs ++ taken (stable (pos 2_999)) "S S     0.0030 g\r\n")
+    (runs ++ taken (stable (pos 2_999)) "")
+    -- an eighth of the present net, which the last one's is not
+    ∷ inGrams sender
+    (taken (stable (pos 24_001)) "" ++ line "SR" "S S     0.0240 g\r\n" ++ taken (stable (pos 27_001)) "S S     0.0270 g\r\n")
+    (taken (stable (pos 24_001)) "" ++ line "SR" "S S     0.0240 g\r\n" ++ taken (stable (pos 27_001)) "")
+    -- a set threshold, and one microgram less
+    ∷ inGrams sender
+    (taken (stable (pos 0)) "" ++ line "SR 0.01 g" "S S     0.0000 g\r\n" ++ taken (stable (pos 9_999)) "S S     0.0100 g\r\n")
+    (taken (stable (pos 0)) "" ++ line "SR 0.01 g" "S S     0.0000 g\r\n" ++ taken (stable (pos 10_000)) "S S     0.0100 g\r\n")
+    -- S S of a sample that is not stable
+    ∷ inGrams sender
+    (runs ++ taken (unstable (pos 5_000)) "S S     0.0050 g\r\n")
+    owes
+    -- a second S D before an S S
+    ∷ inGrams sender
+    (owes ++ taken (unstable (pos 90_000)) "S D     0.0900 g\r\n")
+    (owes ++ taken (unstable (pos 90_000)) "")
+    -- an S S that was owed, dropped when the net came back, or over an excursion
+    ∷ inGrams sender (owes ++ taken (stable (pos 0)) "") (owes ++ taken (stable (pos 0)) "S S     0.0000 g\r\n")
+    ∷ inGrams sender
+    (owes ++ taken (stable (pos 220_000_001)) "S +\r\n" ++ taken (stable (pos 10)) "")
+    (owes ++ taken (stable (pos 220_000_001)) "S +\r\n" ++ taken (stable (pos 10)) "S S     0.0000 g\r\n")
+    -- out of range not told, and told twice
+    ∷ inGrams sender
+    (runs ++ taken (stable (pos 220_000_001)) "")
+    (runs ++ taken (stable (pos 220_000_001)) "S +\r\n")
+    ∷ inGrams sender
+    (runs ++ taken (stable (pos 220_000_001)) "S +\r\n" ++ taken (unstable (negℤ (pos 1_000_001))) "S -\r\n")
+    (runs ++ taken (stable (pos 220_000_001)) "S +\r\n" ++ taken (unstable (negℤ (pos 1_000_001))) "")
+    -- a refused sample that is taken for sent
+    ∷ inGrams sender
+    (runs ++ refused 3 (stable (pos 5_000)) ++ taken (stable (pos 5_000)) "")
+    (runs ++ refused 3 (stable (pos 5_000)) ++ taken (stable (pos 5_000)) "S S     0.0050 g\r\n")
+    ∷ []
+
+-- a load of 10 g is the last net, and then the tare or, while T waits, one of 20 g
+abbrev pub tareAtOnce : List Event
+tareAtOnce = taken (stable (pos 10_000_000)) "" ++ line "SR" "S S    10.0000 g\r\n" ++ line "T" "T S    10.0000 g\r\n"
+
+abbrev pub tareAwaited : List Event
+tareAwaited =
+    taken (stable (pos 10_000_000)) ""
+    ++ line "SR" "S S    10.0000 g\r\n"
+    ++ taken (unstable (pos 10_000_001)) ""
+    ++ line "T" ""
+    ++ taken (stable (pos 20_000_000)) "T S    20.0000 g\r\n"
+
+-- T waits while SR runs, and SI finds it so
+abbrev pub busyNow : List Event
+busyNow = runs ++ taken (unstable (pos 1)) "" ++ line "T" "" ++ line "SI" "S I\r\n" ++ taken (stable (pos 3_000)) "T S     0.0030 g\r\n"
+
+unfoldable pub sendingRows : List Row
+sendingRows =
+    -- a weight that nothing asked for, and a repetition that misses one
+    inGrams sender
+    (taken (stable (pos 0)) "S S     0.0000 g\r\n")
+    (taken (stable (pos 0)) "")
+    ∷ inGrams sender
+    (taken (stable (pos 0)) "" ++ line "SIR" "S S     0.0000 g\r\n" ++ taken (stable (pos 0)) "")
+    (taken (stable (pos 0)) "" ++ line "SIR" "S S     0.0000 g\r\n" ++ taken (stable (pos 0)) "S S     0.0000 g\r\n")
+    -- re-based by T, and by the sample that T waited for
+    ∷ inGrams sender
+    (tareAtOnce ++ taken (stable (pos 10_000_000)) "")
+    (tareAtOnce ++ taken (stable (pos 10_000_000)) "S S     0.0000 g\r\n")
+    ∷ inGrams sender
+    (tareAwaited ++ taken (stable (pos 20_000_000)) "")
+    (tareAwaited ++ taken (stable (pos 20_000_000)) "S S     0.0000 g\r\n")
+    -- on after S + and after a timeout
+    ∷ inGrams sender
+    (taken (stable (pos 220_000_001)) "" ++ line "SR" "S +\r\n" ++ taken (stable (pos 0)) "S S     0.0000 g\r\n")
+    (taken (stable (pos 220_000_001)) "" ++ line "SR" "S +\r\n" ++ taken (stable (pos 0)) "")
+    ∷ inGrams sender
+    (line "SR" "" ++ swings ++ taken (unstable (pos 0)) "S I\r\n" ++ taken (stable (pos 100_000_000)) "S S   100.0000 g\r\n")
+    (line "SR" "" ++ swings ++ taken (unstable (pos 0)) "S I\r\n" ++ taken (stable (pos 100_000_000)) "")
+    -- not ended by SI, by S that waits, and by @
+    ∷ inGrams sender
+    (runs ++ line "SI" "S S     0.0000 g\r\n" ++ taken (stable (pos 5_000)) "S S     0.0050 g\r\n")
+    (runs ++ line "SI" "S S     0.0000 g\r\n" ++ taken (stable (pos 5_000)) "")
+    ∷ inGrams sender
+    (runs ++ taken (unstable (pos 1)) "" ++ line "S" "" ++ taken (stable (pos 1)) "S S     0.0000 g\r\n" ++ taken (stable (pos 5_000)) "S S     0.0050 g\r\n")
+    (runs ++ taken (unstable (pos 1)) "" ++ line "S" "" ++ taken (stable (pos 1)) "S S     0.0000 g\r\n" ++ taken (stable (pos 5_000)) "")
+    ∷ inGrams sender
+    (runs ++ line "@" "I4 A \"VA-0001\"\r\n" ++ taken (stable (pos 5_000)) "S S     0.0050 g\r\n")
+    (runs ++ line "@" "I4 A \"VA-0001\"\r\n" ++ taken (stable (pos 5_000)) "")
+    -- ended by a line that is not carried out: SI while T waits, SI with a parameter, SR with a wrong one
+    ∷ inGrams sender
+    (busyNow ++ taken (stable (pos 6_000)) "")
+    (busyNow ++ taken (stable (pos 6_000)) "S S     0.0030 g\r\n")
+    ∷ inGrams sender
+    (runs ++ line "SI 1" "EL\r\n" ++ taken (stable (pos 5_000)) "")
+    (runs ++ line "SI 1" "EL\r\n" ++ taken (stable (pos 5_000)) "S S     0.0050 g\r\n")
+    ∷ inGrams sender
+    (runs ++ line "SR x" "S L\r\n" ++ taken (stable (pos 5_000)) "")
+    (runs ++ line "SR x" "S L\r\n" ++ taken (stable (pos 5_000)) "S S     0.0050 g\r\n")
+    ∷ []
+
 unfoldable pub rows : List Row
-rows = weightRows ++ stateRows ++ waitRows
+rows = weightRows ++ stateRows ++ waitRows ++ sentRows ++ sendingRows
 
 -- the wrong one is rejected, the right one accepted
 abbrev pub tells : Row → Bool

@@ -57,3 +57,4 @@ refused printing.rt "$number" "places_of(resolution, $number)" LastPlaces Displa
 refused printing.rt "$number" 'steps_of(resolution, net)' DisplaySteps LastPlaces
 refused loads.rt 'minus(gross_of(load, zero), from_tare(tare))' 'minus(gross_of(load, zero), tare)' Tare Micrograms
 refused loads.rt 'minus(from_load(load), from_load(zero))' 'minus(from_load(load), zero)' Load Micrograms
+refused changes.rt 'Threshold(amount.0)' amount Tare Threshold

@@ -67,10 +67,10 @@ fn informed(state: State, command: u8) -> Reaction
 fn mode_after(command: u8) -> Mode
     ensures { λ r. ⌜ r ≡ meaning.modeAfter command ⌝ }
 {
-    if command == SIR {
-        return Mode::EachSample;
+    if command != SIR {
+        return Mode::Off;
     }
-    Mode::Off
+    Mode::EachSample
 }
 
 pub fn sending_as(state: State, mode: Mode) -> State

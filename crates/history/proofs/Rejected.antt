@@ -13,7 +13,7 @@ use Rattle.weight.specs.Places.{lastDigits, digitsIn, digitsOf, decimalOf, numb
 use Rattle.weight.specs.Rounding.{halfUp, placeFemtograms, stepFemtograms, exactFemtograms}
 use Rattle.weight.specs.Amounts.{typedFemtograms, typedMicrograms, amountOf}
 use Rattle.history.specs.EndToEnd.{piecesAfter, piecesOf, piecesHold, hostAccepts}
-use Rattle.history.specs.OnChange.{afterLine, sendsAfter, sendsHold, senderHolds}
+use Rattle.history.specs.OnChange.{sendsAfterLine, sendsAfter, sendsHold, senderHolds}
 use Rattle.history.specs.Rejected.{weightRows, stateRows, waitRows, sentRows, sendingRows, rows, allTell}
 use Rattle.history.specs.Tally.{afterReset, granted, weightHolds, loadHolds, typedHolds, tallied, holds, afterEvent, eventHolds, accepts}
 use Rattle.history.specs.Waits.{waitsHold}
@@ -38,7 +38,7 @@ unfolding
     eventHolds
     accepts
     waitsHold
-    afterLine
+    sendsAfterLine
     sendsAfter
     sendsHold
     senderHolds

@@ -37,7 +37,7 @@ use Rattle.waiting.specs.Waits.{begun, measuredReaction, settledReaction}
 use Rattle.weighing.specs.Weighings.{isOutside, netOf, numberOf, stability, tareAnswer, tared, weighed, withTare, zeroed}
 use Rattle.weight.proofs.Allowed.{both-left, both-right}
 use Rattle.weight.specs.declared.changes.Threshold.{Threshold}
-use Rattle.history.specs.OnChange.{Sends, off, always, asked, running, netIn, nameIn, isCarriedOut, thresholdIn, startedBy, afterLine}
+use Rattle.history.specs.OnChange.{Sends, off, always, asked, running, netIn, nameIn, isCarriedOut, thresholdIn, startedBy, sendsAfterLine}
 use Rattle.history.specs.Tally.{Tally, begins, typedText, isResetLine}
 use Rattle.history.specs.Waits.{isEmpty}
 use Rattle.history.proofs.AnswerKinds.{error-silent, list-silent, versions-silent, shown-silent, weight-shown-silent, cleared-clears, unready-silent, wrong-silent, text-silent, told-tells}
@@ -95,37 +95,37 @@ module _ (p : Profile) (w : Weighing) (c : Sending) (t : Tally) (off-before : c 
 -- ---- the line, by its name
 
 module _ (p : Profile) (t : Tally) (f : List Marked) (l : List ℕ) (x : Sends) where
-  line-reset : isResetLine f ≡ true → afterLine p t f l x ≡ off
-  unfolding afterLine
+  line-reset : isResetLine f ≡ true → sendsAfterLine p t f l x ≡ off
+  unfolding sendsAfterLine
   line-reset e = rw e
 
   module _ (other : isResetLine f ≡ false) where
-    line-kept : isCarriedOut l ≡ false → afterLine p t f l x ≡ x
-    unfolding afterLine
+    line-kept : isCarriedOut l ≡ false → sendsAfterLine p t f l x ≡ x
+    unfolding sendsAfterLine
     line-kept e = rw (other, e)
 
     -- none of S, SI, SIR and SR
     line-other : (n : List ℕ) → nameIn f ≡ n → sameText n (ascii "S") ≡ false → sameText n (ascii "SI") ≡ false → sameText n (ascii "SIR") ≡ false
-        → sameText n (ascii "SR") ≡ false → afterLine p t f l x ≡ x
-    unfolding afterLine
+        → sameText n (ascii "SR") ≡ false → sendsAfterLine p t f l x ≡ x
+    unfolding sendsAfterLine
     line-other n name a b c d = rw (other, name, a, b, c, d, and-false (isCarriedOut l))
 
     module _ (carried : isCarriedOut l ≡ true) where
-      line-ends : nameIn f ≡ ascii "S" → afterLine p t f l x ≡ off
-      unfolding afterLine
+      line-ends : nameIn f ≡ ascii "S" → sendsAfterLine p t f l x ≡ off
+      unfolding sendsAfterLine
       line-ends name = rw (other, name, carried)
 
-      line-ends-now : nameIn f ≡ ascii "SI" → afterLine p t f l x ≡ off
-      unfolding afterLine
+      line-ends-now : nameIn f ≡ ascii "SI" → sendsAfterLine p t f l x ≡ off
+      unfolding sendsAfterLine
       line-ends-now name = rw (other, name, carried)
 
-      line-repeats : nameIn f ≡ ascii "SIR" → afterLine p t f l x ≡ always
-      unfolding afterLine
+      line-repeats : nameIn f ≡ ascii "SIR" → sendsAfterLine p t f l x ≡ always
+      unfolding sendsAfterLine
       line-repeats name = rw (other, name, carried)
 
       line-changes : (threshold : ℕ) → nameIn f ≡ ascii "SR" → thresholdIn p (map byteIn f) ≡ threshold
-          → afterLine p t f l x ≡ cond (isEmpty l) (asked threshold) (startedBy t threshold l)
-      unfolding afterLine
+          → sendsAfterLine p t f l x ≡ cond (isEmpty l) (asked threshold) (startedBy t threshold l)
+      unfolding sendsAfterLine
       line-changes threshold name typed = rw (other, name, carried, typed)
 
 -- ---- a reaction to a line
@@ -138,7 +138,7 @@ nothing-carried p = rw (nothing-empty p)
 
 module _ (p : Profile) (s : State) (f : List Marked) (other : isResetLine f ≡ false) (x : Sends) (old : Follow s x) where
   abbrev SentOf : Reaction → Type 0
-  SentOf r = (t : Tally) → Follows (r .state .weighing) t → Follow (r .state) (afterLine p t f (answerBytes p (r .answer)) x)
+  SentOf r = (t : Tally) → Follows (r .state .weighing) t → Follow (r .state) (sendsAfterLine p t f (answerBytes p (r .answer)) x)
 
   -- what is not carried out at order 8, or has nothing to do with it, moves nothing
   kept-sent : (r : Reaction) → r .state .waiting ≡ s .waiting → r .state .sending ≡ s .sending → isCarriedOut (answerBytes p (r .answer)) ≡ false → SentOf r
@@ -273,7 +273,7 @@ typed-threshold p s f n line = rw (ap hasSpace (line .line .bytes) ∙ spaced (p
 module _ (p : Profile) (s : State) (f : List Marked) (x : Sends) (old : Follow s x) where
   pub performed-sent : (l : Line) (v : Verdict) → judgementOf (situationOf p s) f ≡ v
       → (t : Tally) → Follows (performed p s l v .state .weighing) t
-      → Follow (performed p s l v .state) (afterLine p t f (answerBytes p (performed p s l v .answer)) x)
+      → Follow (performed p s l v .state) (sendsAfterLine p t f (answerBytes p (performed p s l v .answer)) x)
   unfolding resetState
   performed-sent l (Erroneous e) h =
       kept-sent p s f (verdict-says (situationOf p s) f (Erroneous e) h) x old (performed p s l (Erroneous e)) refl refl

@@ -84,8 +84,8 @@ startedBy t threshold l =
     cond (begins (ascii "S S") l) (running (record { last = netIn t; threshold = threshold; owed = false; outside = false })) off
 
 -- @ ends all of it; S, SI, SIR and SR that are carried out end what was, and the last two start their own
-unfoldable pub afterLine : Profile → Tally → List Marked → List ℕ → Sends → Sends
-afterLine p t f l s =
+unfoldable pub sendsAfterLine : Profile → Tally → List Marked → List ℕ → Sends → Sends
+sendsAfterLine p t f l s =
     cond (isResetLine f) off
     (cond (isCarriedOut l && (sameText (nameIn f) (ascii "S") || sameText (nameIn f) (ascii "SI"))) off
     (cond (isCarriedOut l && sameText (nameIn f) (ascii "SIR")) always
@@ -140,7 +140,7 @@ unaskedHolds p t stable l (running r) = cond (isDue p t stable r) (isSent p t st
 -- ---- a call that was not refused; t is the tally after it
 
 unfoldable pub sendsAfter : Profile → Waits → Tally → Input → List ℕ → Sends → Sends
-sendsAfter p w t (byteIs m) l s = cond (endsUnbounded (w .line) m) (afterLine p t (finishedLine (w .line)) l s) s
+sendsAfter p w t (byteIs m) l s = cond (endsUnbounded (w .line) m) (sendsAfterLine p t (finishedLine (w .line)) l s) s
 sendsAfter p w t (sampleIs z stable) l s = cond (isAwaiting (w .waiting)) (afterAwaited t l s) (afterUnasked p t l s)
 
 unfoldable pub sendsHold : Profile → Waits → Tally → Input → List ℕ → Sends → Bool

@@ -21,7 +21,7 @@ use Rattle.model.specs.declared.state.State.{State}
 use Rattle.weighing.specs.declared.weighing.Measured.{Measured}
 use Rattle.model.specs.declared.weighing.Weighing.{Weighing}
 use Rattle.commands.specs.Reactions.{changing, informed, modeAfter, run, runAs, sendingAs, showing, showingWeight, taring, unanswered, weighing, zeroing}
-use Rattle.model.specs.Groups.{reaction, withMode, withSending, withWeighing}
+use Rattle.model.specs.Groups.{reaction, withSending, withWeighing}
 use Rattle.waiting.specs.Changes.{withThreshold}
 use Rattle.waiting.specs.Waits.{begun, measuredReaction}
 use Rattle.answer.specs.Lines.{headOf}

@@ -3,10 +3,10 @@
 -- Assumes nothing.
 use Prim.Native.Nat.{ℕ}
 use mathlib.Core.Path.{_≡_, refl, sym, ap, _∙_}
-use mathlib.Core.Bool.{Bool, true, false}
-use mathlib.Core.List.{List, _∷_}
+use mathlib.Core.Bool.{Bool, true}
+use mathlib.Core.List.{List}
 use lib.ListN.{take}
-use Rattle.commands.specs.Reactions.{byteReaction, performed, situationOf}
+use Rattle.commands.specs.Reactions.{byteReaction, situationOf}
 use Rattle.device.specs.declared.call.Called.{Called}
 use Rattle.device.specs.Calls.{answerBytes}
 use Rattle.line.specs.declared.judge.Verdict.{Verdict}
@@ -25,7 +25,7 @@ use Rattle.model.specs.States.{startState}
 use Rattle.waiting.specs.Waits.{sampleReaction}
 use Rattle.history.specs.OnChange.{Sends, Sender, startSender, sendsAfter, sendsHold, afterCall, senderHolds, SentOnChange}
 use Rattle.history.specs.Tally.{Event, Input, Tally, byteIs, sampleIs, afterEvent}
-use Rattle.history.specs.Waits.{Waits, isAwaiting, afterInput}
+use Rattle.history.specs.Waits.{Waits, isAwaiting}
 use Rattle.history.proofs.Along.{Followed, Step, over-calls}
 use Rattle.history.proofs.Delivering.{Delivered, given, withheld, byte-delivered, sample-delivered}
 use Rattle.history.proofs.Following.{Follows}

@@ -2,7 +2,7 @@
 -- Assumes nothing.
 use mathlib.Core.Path.{_≡_, refl, sym, ap, _∙_}
 use mathlib.Core.Bool.{Bool, true, false, cond, not, _&&_, _||_, and-false, or-false, false≢true}
-use mathlib.Core.List.{List, [], _∷_, _++_, map}
+use mathlib.Core.List.{List, _++_, map}
 use Prim.Native.Nat.{ℕ}
 use borrow.Author.Tests.{eqb-true}
 use lib.Dec.{leb}
@@ -38,12 +38,12 @@ use Rattle.weighing.specs.Weighings.{isOutside, netOf, numberOf, stability, tar
 use Rattle.weight.proofs.Allowed.{both-left, both-right}
 use Rattle.weight.specs.declared.changes.Threshold.{Threshold}
 use Rattle.history.specs.OnChange.{Sends, off, always, asked, running, netIn, nameIn, isCarriedOut, thresholdIn, startedBy, sendsAfterLine}
-use Rattle.history.specs.Tally.{Tally, begins, typedText, isResetLine}
+use Rattle.history.specs.Tally.{Tally, isResetLine}
 use Rattle.history.specs.Waits.{isEmpty}
 use Rattle.history.proofs.AnswerKinds.{error-silent, list-silent, versions-silent, shown-silent, weight-shown-silent, cleared-clears, unready-silent, wrong-silent, text-silent, told-tells}
 use Rattle.history.proofs.Following.{Follows}
 use Rattle.history.proofs.SentAnswers.{silent-empty}
-use Rattle.history.proofs.SentHeads.{net-in, Heads, heads, uncarried, zeroed-uncarried, tared-uncarried}
+use Rattle.history.proofs.SentHeads.{net-in, heads, uncarried, zeroed-uncarried, tared-uncarried}
 use Rattle.history.proofs.Verdicts.{verdict-says}
 use Rattle.history.proofs.Ways.{Ruled, by-choice, run-cases}
 

@@ -4,12 +4,11 @@ use mathlib.Core.Path.{_≡_, refl, sym, ap, _∙_}
 use mathlib.Core.Bool.{Bool, true, false, cond, not, _&&_, _||_, or-false, or-true, false≢true}
 use mathlib.Core.List.{List}
 use Prim.Native.Nat.{ℕ, _+_}
-use lib.IntN.{ℤ, pos, negℤ, natAbs, _-ℤ_}
+use lib.IntN.{ℤ, pos, negℤ}
 use lib.Signed.{leZ, ltZ}
 use Rattle.answer.specs.declared.answer.Answer.{Answer}
 use Rattle.answer.specs.declared.answer.Answer.the-variants as answers
 use Rattle.answer.specs.declared.answer.Status.the-variants.{I}
-use Rattle.answer.specs.Commands.{placeS}
 use Rattle.answer.specs.Lines.{headText, lineOf, headOf}
 use Rattle.device.specs.Calls.{answerBytes}
 use Rattle.model.specs.declared.profile.Profile.{Profile}
@@ -23,7 +22,6 @@ use Rattle.model.specs.declared.state.State.{State}
 use Rattle.model.specs.declared.weighing.Weighing.{Weighing}
 use Rattle.model.specs.Groups.{notWaiting, reaction, withSending, withWaiting}
 use Rattle.model.specs.Profiles.{profileAllowed}
-use Rattle.model.specs.Sendings.{isOnChange}
 use Rattle.model.specs.States.{isChange, isPending, stateAllowed}
 use Rattle.model.proofs.ProfileFacts.{allowed-profile}
 use Rattle.model.proofs.StateFacts.{allowed-state}
@@ -32,19 +30,18 @@ use Rattle.waiting.specs.Changes.{changeReaction, goneOutside, keptInside, sent
 use Rattle.waiting.specs.Changes as device
 use Rattle.waiting.specs.Waits.{placeOfPending, sampledState, sendingOf, settled, settledReaction, sampleReaction}
 use Rattle.weighing.specs.Weighings.{grossOf, isOutside, netOf, weighed}
-use Rattle.weight.specs.Changes.{hasMoved, reachesThreshold}
 use Rattle.weight.specs.Rounding.{allowedResolution, inRange}
 use Rattle.weight.specs.declared.loads.Load.{Load}
 use Rattle.weight.proofs.Allowed.{neither-left, neither-right, both-hold}
 use Rattle.weight.proofs.Moves.{move-known}
-use Rattle.history.specs.OnChange.{Running, Sends, off, always, asked, running, grossIn, netIn, isOver, isUnder, startedBy, afterAwaited, afterSent, afterUnasked, isDue, isSent, unaskedHolds, sendsAfter, sendsHold}
+use Rattle.history.specs.OnChange.{Running, Sends, off, always, asked, running, grossIn, netIn, isOver, isUnder, afterAwaited, afterSent, afterUnasked, isDue, isSent, unaskedHolds, sendsAfter, sendsHold}
 use Rattle.history.specs.Tally.{Tally, sampleIs, begins}
 use Rattle.history.specs.Waits.{Waits, isAwaiting, isEmpty}
 use Rattle.history.proofs.DueWeights.{net-within, tare-range, within-range}
 use Rattle.history.proofs.Following.{Follows, gross-is}
 use Rattle.history.proofs.SendsLine.{sendsBy, sendsOf, Follow, free-sends, free-idle, started-sends}
 use Rattle.history.proofs.SentAnswers.{silent-empty}
-use Rattle.history.proofs.SentHeads.{net-in, Heads, heads}
+use Rattle.history.proofs.SentHeads.{net-in, heads}
 use Rattle.history.proofs.Ways.{change-cases, sample-cases}
 
 -- ---- a sample that finds a command waiting
@@ -205,29 +202,38 @@ module _
             within-range p profile (netOf v) (both-hold (leZ (negℤ (pos (p .underload + p .capacity))) (netOf v)) (leZ (netOf v) (pos (p .capacity))) (net .0) (net .1)),
           )
 
+      -- what SR makes of it, where the follower agrees whether it is sent, and what is kept then
+      as-running : (c : Sending) (a : Answer) (t : Tally) → c .mode ≡ s .sending .mode
+          → cond (isDue p t stable (runningOf (s .sending))) (isSent p t stable (answerBytes p a)) (isEmpty (answerBytes p a)) ≡ true
+          → afterSent p t (answerBytes p a) (runningOf (s .sending)) ≡ runningOf c
+          → SampleSent p w (z .0) stable x (reaction (withSending after c) a) t
+      as-running c a t same holds kept =
+          unasked-sent free (reaction (withSending after c) a) t (running (runningOf (s .sending))) (as-mode free OnChange runs) refl holds
+          (ap running kept ∙ ap (λ (m : Mode). sendsBy m c) (sym (same ∙ runs)))
+
       change-sent : Sent (changeReaction p after)
       change-sent =
+          let v : Weighing = after .weighing in
+          let c : Sending = s .sending in
+          let gross : (t : Tally) → Follows v t → grossIn t ≡ grossOf v = λ t g. gross-is v t g refl in
+          let net : (t : Tally) → Follows v t → netIn t ≡ netOf v = λ t g. net-in v t g refl in
           change-cases Sent p after
           (λ out told t g.
-          unasked-sent free (reaction (withSending after (goneOutside (s .sending))) answers.Nothing) t (running (runningOf (s .sending))) (as-mode free OnChange runs) refl
-          (rw (told-holds p t (after .weighing) (gross-is (after .weighing) t g refl) (net-in (after .weighing) t g refl) (s .sending) out told) (nothing-empty p))
-          (ap running (silent-after p t (after .weighing) (gross-is (after .weighing) t g refl) (net-in (after .weighing) t g refl) (s .sending) _ refl true out)
-          ∙ rw runs))
+          as-running (goneOutside c) answers.Nothing t refl
+          (rw (told-holds p t v (gross t g) (net t g) c out told) (nothing-empty p))
+          (silent-after p t v (gross t g) (net t g) c (answerBytes p answers.Nothing) refl true out))
           (λ out first t g.
-          unasked-sent free (reaction (withSending after (goneOutside (s .sending))) (weighed p (after .weighing))) t (running (runningOf (s .sending))) (as-mode free OnChange runs) refl
-          (rw (first-holds p t (after .weighing) (gross-is (after .weighing) t g refl) (net-in (after .weighing) t g refl) (s .sending) out first)
-          (heads p (after .weighing) .sent t (gross-is (after .weighing) t g refl)))
-          (ap running (first-after p t (after .weighing) (gross-is (after .weighing) t g refl) (net-in (after .weighing) t g refl) (s .sending) out) ∙ rw runs))
+          as-running (goneOutside c) (weighed p v) t refl
+          (rw (first-holds p t v (gross t g) (net t g) c out first) (heads p v .sent t (gross t g)))
+          (first-after p t v (gross t g) (net t g) c out))
           (λ inside due t g.
-          unasked-sent free (reaction (withSending after (sent (after .weighing) (s .sending))) (weighed p (after .weighing))) t (running (runningOf (s .sending))) (as-mode free OnChange runs) refl
-          (rw (due-is p t (after .weighing) (gross-is (after .weighing) t g refl) (net-in (after .weighing) t g refl) (s .sending) inside (known-nets inside) ∙ due)
-          (heads p (after .weighing) .sent t (gross-is (after .weighing) t g refl)))
-          (ap running (sent-by p t (after .weighing) (gross-is (after .weighing) t g refl) (net-in (after .weighing) t g refl) (s .sending) inside (known-nets inside) stable refl) ∙ rw runs))
+          as-running (sent v c) (weighed p v) t refl
+          (rw (due-is p t v (gross t g) (net t g) c inside (known-nets inside) ∙ due) (heads p v .sent t (gross t g)))
+          (sent-by p t v (gross t g) (net t g) c inside (known-nets inside) stable refl))
           (λ inside due t g.
-          unasked-sent free (reaction (withSending after (keptInside (s .sending))) answers.Nothing) t (running (runningOf (s .sending))) (as-mode free OnChange runs) refl
-          (rw (due-is p t (after .weighing) (gross-is (after .weighing) t g refl) (net-in (after .weighing) t g refl) (s .sending) inside (known-nets inside) ∙ due) (nothing-empty p))
-          (ap running (silent-after p t (after .weighing) (gross-is (after .weighing) t g refl) (net-in (after .weighing) t g refl) (s .sending) _ refl false inside)
-          ∙ rw runs))
+          as-running (keptInside c) answers.Nothing t refl
+          (rw (due-is p t v (gross t g) (net t g) c inside (known-nets inside) ∙ due) (nothing-empty p))
+          (silent-after p t v (gross t g) (net t g) c (answerBytes p answers.Nothing) refl false inside))
 
     pub sample-sent : profileAllowed p ≡ true → stateAllowed p s ≡ true → Sent (sampleReaction p s z stable)
     unfolding settledReaction

@@ -1,6 +1,6 @@
 -- What the follower of SR reads in the head of an answer.
 -- Assumes nothing.
-use mathlib.Core.Path.{_≡_, refl, sym, ap, ap₂, _∙_}
+use mathlib.Core.Path.{_≡_, refl, sym, ap, ap₂}
 use mathlib.Core.Bool.{Bool, true, false, cond, not, _&&_, _||_, true≢false}
 use mathlib.Core.List.{List}
 use Prim.Native.Nat.{ℕ}
@@ -8,7 +8,7 @@ use lib.IntN.{pos, negℤ, _-ℤ_}
 use lib.Signed.{ltZ}
 use Rattle.answer.specs.declared.answer.Answer.{Answer}
 use Rattle.answer.specs.declared.answer.Answer.the-variants.{Plain, Weight}
-use Rattle.answer.specs.declared.answer.Status.the-variants.{S, D, Over, Under}
+use Rattle.answer.specs.declared.answer.Status.the-variants.{S, D}
 use Rattle.answer.specs.Commands.{placeS, placeTI, placeZI}
 use Rattle.answer.specs.Lines.{headText, lineOf, headOf}
 use Rattle.device.specs.Calls.{answerBytes}
@@ -16,8 +16,8 @@ use Rattle.model.specs.declared.profile.Profile.{Profile}
 use Rattle.model.specs.declared.weighing.Weighing.{Weighing}
 use Rattle.text.specs.Ascii.{ascii}
 use Rattle.weighing.specs.Weighings.{grossOf, netOf, numberOf, inLimits, isOutside, stability, weighed, zeroed, tared}
-use Rattle.history.specs.OnChange.{grossIn, netIn, isCarriedOut, isOver, isUnder, isSent}
-use Rattle.history.specs.Tally.{Tally, begins, tellsNet, tellsLimit}
+use Rattle.history.specs.OnChange.{grossIn, netIn, isCarriedOut, isSent}
+use Rattle.history.specs.Tally.{Tally, begins}
 use Rattle.history.specs.Waits.{isEmpty}
 use Rattle.history.proofs.AnswerKinds.{Tests}
 use Rattle.history.proofs.Following.{Follows, gross-is}

@@ -24,7 +24,6 @@ use Rattle.model.specs.declared.state.Pending.the-variants.{Nothing, Weigh, Zer
 use Rattle.model.specs.declared.state.State.{State}
 use Rattle.model.specs.declared.state.Waiting.{Waiting}
 use Rattle.weight.specs.declared.loads.Load.{Load}
-use Rattle.weighing.specs.declared.weighing.Measured.{Measured}
 use Rattle.model.specs.declared.weighing.Weighing.{Weighing}
 use Rattle.model.specs.Profiles.{textAllowed20, profileAllowed}
 use Rattle.commands.specs.Reactions.{weighing, zeroing, run, changing, modeAfter, sendingAs, weightShown, resetState, textShown, performed, byteReaction, situationOf}

@@ -45,10 +45,10 @@ pub mode-off : (c : ℕ) → (c ≡ placeSIR → ⊥) → Off ≡ modeAfter c
 mode-off c e = rw (ne-eqb c placeSIR e)
 
 -- SR
-pub changing-begun : (p : Profile) (s : State) (threshold : ℕ) {c : Sending} {t : State} {r : Reaction}
-    → c ≡ withThreshold (s .sending) threshold → t ≡ withSending s c → r ≡ begun p t Change → r ≡ changing p s threshold
+pub changing-begun : (p : Profile) (s : State) (threshold : ℕ) {t : State} {r : Reaction}
+    → t ≡ withSending s (withThreshold (s .sending) threshold) → r ≡ begun p t Change → r ≡ changing p s threshold
 unfolding changing
-changing-begun p s threshold c t g = rw (g, t, c)
+changing-begun p s threshold t g = rw (g, t)
 
 module _ (p : Profile) (s : State) (c : ℕ) {r : Reaction} where
   -- by the kind that was found
@@ -72,8 +72,8 @@ module _ (p : Profile) (s : State) (c : ℕ) {r : Reaction} where
     pub run-showing : k ≡ Shows → r ≡ showing s c → r ≡ run p s c
     run-showing = run-as
 
-    pub run-changing : k ≡ Sends → r ≡ changing p s 0 → r ≡ run p s c
-    run-changing = run-as
+    pub run-changing : {t : State} → k ≡ Sends → t ≡ withSending s (withThreshold (s .sending) 0) → r ≡ begun p t Change → r ≡ run p s c
+    run-changing is t g = run-as is (changing-begun p s 0 t g)
 
     pub run-taring : k ≡ Tares → r ≡ taring p s c → r ≡ run p s c
     run-taring = run-as

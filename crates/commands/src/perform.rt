@@ -10,9 +10,9 @@ ghost use Rattle.commands.specs.Reactions as meaning;
 ghost use Rattle.model.specs.Groups as groups;
 ghost use Rattle.answer.specs.Lines as lines;
 ghost use Rattle.weighing.specs.Weighings as weights;
-use crate::run::change;
 use crate::run::run;
 use crate::run::weight_shown;
+use crate::run::with_change;
 use answer::Answer;
 use answer::D;
 use answer::I4;
@@ -29,6 +29,7 @@ use line::cleared;
 use line::judge_line;
 use model::Display;
 use model::Mode;
+use model::Pending;
 use model::Profile;
 use model::Reaction;
 use model::State;
@@ -39,6 +40,7 @@ use model::with_display;
 use model::with_line;
 use model::with_mode;
 use model::with_weighing;
+use waiting::begun;
 use waiting::not_waiting;
 use weighing::tare_answer;
 use weighing::with_tare;
@@ -153,7 +155,11 @@ fn performed(profile: Profile, state: State, line: Line, verdict: Verdict) -> Re
         Verdict::NoSample(command) => not_possible(state, command),
         Verdict::Run(command) => run(profile, state, command),
         Verdict::Preset(tare) => preset(profile, state, tare),
-        Verdict::Change(threshold) => change(profile, state, threshold),
+        Verdict::Change(threshold) => begun(
+            profile,
+            with_change(state, threshold),
+            Pending::Change,
+        ),
         Verdict::Show(len) => show_text(state, line, len),
     }
 }

@@ -1,6 +1,8 @@
 // A command's own rule, by its kind.
 ghost use mathlib.Core.Path.{_≡_};
 ghost use Rattle.commands.specs.Reactions as meaning;
+ghost use Rattle.model.specs.Groups as groups;
+ghost use Rattle.waiting.specs.Changes as changes;
 use answer::Answer;
 use answer::DW;
 use answer::I0;
@@ -140,13 +142,12 @@ fn run_showing(state: State, command: u8) -> Reaction
     unanswered(state)
 }
 
-// SR, with its threshold.
-pub fn change(profile: Profile, state: State, threshold: Threshold) -> Reaction
-    ensures { λ r. ⌜ r ≡ meaning.changing profile state (threshold .0) ⌝ }
+// SR comes with its threshold, before it is judged or waits.
+pub fn with_change(state: State, threshold: Threshold) -> State
+    ensures { λ r. ⌜ r ≡ groups.withSending state (changes.withThreshold (state .sending) (threshold .0)) ⌝ }
 {
     let sending = state.sending;
-    let ended = with_sending(state, with_threshold(sending, threshold));
-    begun(profile, ended, Pending::Change)
+    with_sending(state, with_threshold(sending, threshold))
 }
 
 // T, TI, TAC and TA alone.
@@ -181,7 +182,7 @@ pub fn run(profile: Profile, state: State, command: u8) -> Reaction
         Kind::Zeroes => run_zeroing(profile, state, command),
         Kind::Resets => unanswered(state),
         Kind::Shows => run_showing(state, command),
-        Kind::Sends => change(profile, state, NO_THRESHOLD),
+        Kind::Sends => begun(profile, with_change(state, NO_THRESHOLD), Pending::Change),
         Kind::Tares => run_taring(profile, state, command),
         Kind::Unknown => unanswered(state),
     }

@@ -78,9 +78,11 @@ pub fn take_byte(profile: Profile, state: State, byte: u8, faulty: bool, out: &m
     let before = state.line;
     let received = receive_byte(before, byte, faulty);
     if received.ended {
+        // Copied here, the profile is not copied for a byte that ends no line.
+        let kept = profile;
         let reaction = line_reaction(profile, state);
         let answer = reaction.answer;
-        let emitted = emit_due(profile, answer, out);
+        let emitted = emit_due(kept, answer, out);
         if emitted.fits {
             let after = reaction.state;
             return taken(after, emitted.count);
@@ -108,9 +110,11 @@ pub fn take_sample(
         return refused(Refusal::State, state);
     }
     if is_awaited(state) {
+        // As above.
+        let kept = profile;
         let reaction = sample_reaction(profile, state, load, stable);
         let answer = reaction.answer;
-        let emitted = emit_due(profile, answer, out);
+        let emitted = emit_due(kept, answer, out);
         if emitted.fits {
             let after = reaction.state;
             return taken(after, emitted.count);

@@ -10,6 +10,7 @@ use Rattle.answer.specs.Commands.{isI2, isI3, isI4, isI5}
 use Rattle.model.specs.declared.profile.Text20.{Text20}
 use Rattle.model.specs.declared.profile.Text40.{Text40}
 use Rattle.model.specs.declared.profile.Profile.{Profile}
+use Rattle.model.specs.declared.profile.Scale.{Scale}
 use Rattle.text.specs.Printable.{isPrintable}
 use Rattle.weight.specs.Rounding.{allowedResolution, placesOf}
 use Rattle.weight.specs.Places.{fitsField}
@@ -63,6 +64,10 @@ profileAllowed p =
     && allowedResolution (p .resolution)
     && netsAllowed p
     && textsAllowed p
+
+-- what weighing asks of a profile
+abbrev pub scaleOf : Profile → Scale
+scaleOf p = record { capacity = p .capacity; underload = p .underload; zeroing = p .zeroing; resolution = p .resolution }
 
 -- the text that goes with I2 to I5
 abbrev pub informationText : Profile → ℕ → List ℕ

@@ -6,7 +6,7 @@ ghost use lib.Dec.{leb};
 ghost use lib.ListN.{length, take};
 ghost use Rattle.text.specs.Printable.{isPrintable};
 ghost use Rattle.weight.specs.Rounding.{allowedResolution};
-ghost use Rattle.model.specs.Profiles.{capacityAllowed, underloadAllowed, zeroRangeAllowed, timeoutAllowed, netsAllowed, textAllowed20, textsAllowed, profileAllowed};
+ghost use Rattle.model.specs.Profiles.{capacityAllowed, underloadAllowed, zeroRangeAllowed, timeoutAllowed, netsAllowed, textAllowed20, textsAllowed, profileAllowed, scaleOf};
 use text::is_printable;
 use weight::Resolution;
 use weight::fits_below_zero;
@@ -34,6 +34,26 @@ pub struct Profile {
     pub software: Text40,
     pub serial: Text20,
     pub release: Text20,
+}
+
+// What weighing asks of a profile. A function that is not inlined takes this: a whole profile would be copied for it.
+pub struct Scale {
+    pub capacity: u32,
+    pub underload: u32,
+    pub zeroing: u32,
+    pub resolution: Resolution,
+}
+
+pub fn scale_of(profile: Profile) -> Scale
+    ensures { λ r. ⌜ r ≡ scaleOf profile ⌝ }
+{
+    let resolution = profile.resolution;
+    Scale {
+        capacity: profile.capacity,
+        underload: profile.underload,
+        zeroing: profile.zeroing,
+        resolution,
+    }
 }
 
 // Whether there are `len` bytes, 32 to 255 without 34.

@@ -6,25 +6,27 @@ use lib.IntN.{ℤ}
 use Rattle.answer.specs.declared.answer.Answer.{Answer}
 use Rattle.answer.specs.declared.answer.Answer.the-variants.{Nothing}
 use Rattle.model.specs.declared.profile.Profile.{Profile}
+use Rattle.model.specs.declared.profile.Scale.{Scale}
 use Rattle.model.specs.declared.react.Reaction.{Reaction}
 use Rattle.model.specs.declared.sending.Mode.the-variants.{OnChange}
 use Rattle.model.specs.declared.sending.Sending.{Sending}
 use Rattle.model.specs.declared.state.State.{State}
 use Rattle.model.specs.declared.weighing.Weighing.{Weighing}
 use Rattle.model.specs.Groups.{reaction, withSending}
-use Rattle.waiting.specs.Changes.{changeReaction, goneOutside, isDue, keptInside, sent, started}
-use Rattle.weighing.specs.Weighings.{isOutside, netOf, weighed}
+use Rattle.model.specs.Profiles.{scaleOf}
+use Rattle.waiting.specs.Changes.{changeReaction, goneOutside, isDue, keptInside, sent, startedBy}
+use Rattle.weighing.specs.Weighings.{isOutside, outsideBy, netOf, weighed}
 use Rattle.weight.specs.Changes.{hasMoved}
 use Rattle.weight.specs.declared.rounding.Micrograms.{Micrograms}
 
 -- ---- what SR keeps
 
-module _ (p : Profile) (w : Weighing) (c : Sending) {out : Bool} (asked : out ≡ isOutside p w) where
-  pub starts-not : out ≡ true → c ≡ started p w c
+module _ (k : Scale) (w : Weighing) (c : Sending) {out : Bool} (asked : out ≡ outsideBy k w) where
+  pub starts-not : out ≡ true → c ≡ startedBy k w c
   starts-not e = rw (sym asked ∙ e)
 
   pub starts : {n : Micrograms} → out ≡ false → n .0 ≡ netOf w
-      → record { last = n; threshold = c .threshold; mode = OnChange; owed = false; outside = false } ≡ started p w c
+      → record { last = n; threshold = c .threshold; mode = OnChange; owed = false; outside = false } ≡ startedBy k w c
   starts {n} e net =
       rw (sym asked ∙ e)
       (ap (λ (z : ℤ). record { last = record { 0 = z }; threshold = c .threshold; mode = OnChange; owed = false; outside = false }) net)
@@ -50,18 +52,21 @@ module _ (p : Profile) (w : Weighing) (c : Sending) where
 
 -- ---- a sample
 
-module _ (p : Profile) (s : State) {out : Bool} (asked : out ≡ isOutside p (s .weighing)) {c : Sending} {t : State} {r : Reaction} where
+outside-scale : (p : Profile) (w : Weighing) {k : Scale} {out b : Bool} → k ≡ scaleOf p → out ≡ outsideBy k w → out ≡ b → isOutside p w ≡ b
+outside-scale p w k asked e = rw (← k, ← asked, e)
+
+module _ (p : Profile) (s : State) {k : Scale} (by : k ≡ scaleOf p) {out : Bool} (asked : out ≡ outsideBy k (s .weighing)) {c : Sending} {t : State} {r : Reaction} where
   pub changed-outside : {a : Answer} → out ≡ true → a ≡ cond (s .sending .outside) Nothing (weighed p (s .weighing))
       → c ≡ goneOutside (s .sending) → t ≡ withSending s c → r ≡ reaction t a → r ≡ changeReaction p s
   unfolding changeReaction
-  changed-outside e a c t r = rw (r, t, c, a, sym asked ∙ e)
+  changed-outside e a c t r = rw (r, t, c, a, outside-scale p (s .weighing) by asked e)
 
   module _ (inside : out ≡ false) {due : Bool} (tested : due ≡ isDue p (s .weighing) (s .sending)) where
     pub changed-due : {a : Answer} → due ≡ true → a ≡ weighed p (s .weighing)
         → c ≡ sent (s .weighing) (s .sending) → t ≡ withSending s c → r ≡ reaction t a → r ≡ changeReaction p s
     unfolding changeReaction
-    changed-due e a c t r = rw (r, t, c, a, sym asked ∙ inside, sym tested ∙ e)
+    changed-due e a c t r = rw (r, t, c, a, outside-scale p (s .weighing) by asked inside, sym tested ∙ e)
 
     pub changed-not : due ≡ false → c ≡ keptInside (s .sending) → t ≡ withSending s c → r ≡ reaction t Nothing → r ≡ changeReaction p s
     unfolding changeReaction
-    changed-not e c t r = rw (r, t, c, sym asked ∙ inside, sym tested ∙ e)
+    changed-not e c t r = rw (r, t, c, outside-scale p (s .weighing) by asked inside, sym tested ∙ e)

@@ -4,13 +4,15 @@ use Prim.Native.Nat.{ℕ}
 use mathlib.Core.Bool.{Bool, true, false, cond, not}
 use Rattle.answer.specs.declared.answer.Answer.the-variants.{Nothing}
 use Rattle.model.specs.declared.profile.Profile.{Profile}
+use Rattle.model.specs.declared.profile.Scale.{Scale}
+use Rattle.model.specs.Profiles.{scaleOf}
 use Rattle.model.specs.declared.react.Reaction.{Reaction}
 use Rattle.model.specs.declared.sending.Mode.the-variants.{Off, OnChange}
 use Rattle.model.specs.declared.sending.Sending.{Sending}
 use Rattle.model.specs.declared.state.State.{State}
 use Rattle.model.specs.declared.weighing.Weighing.{Weighing}
 use Rattle.model.specs.Groups.{withSending, reaction, chosenReaction}
-use Rattle.weighing.specs.Weighings.{isOutside, netOf, weighed}
+use Rattle.weighing.specs.Weighings.{isOutside, outsideBy, netOf, weighed}
 use Rattle.weight.specs.Changes.{hasMoved}
 
 abbrev pub chosenSending : Bool → Sending → Sending → Sending
@@ -22,10 +24,13 @@ abbrev pub withThreshold : Sending → ℕ → Sending
 withThreshold c t = record { last = c .last; threshold = record { 0 = t }; mode = Off; owed = c .owed; outside = c .outside }
 
 -- its first answer: after S S it runs, with that net as the last one; after + or - it stays off
-abbrev pub started : Profile → Weighing → Sending → Sending
-started p w c =
-    chosenSending (isOutside p w) c
+abbrev pub startedBy : Scale → Weighing → Sending → Sending
+startedBy k w c =
+    chosenSending (outsideBy k w) c
     (record { last = record { 0 = netOf w }; threshold = c .threshold; mode = OnChange; owed = false; outside = false })
+
+abbrev pub started : Profile → Weighing → Sending → Sending
+started p w c = startedBy (scaleOf p) w c
 
 -- ---- a sample while SR runs
 

@@ -7,10 +7,12 @@ use answer::Answer;
 use model::Mode;
 use model::Profile;
 use model::Reaction;
+use model::Scale;
 use model::Sending;
 use model::State;
 use model::Weighing;
 use model::answered;
+use model::scale_of;
 use model::with_sending;
 use weighing::is_outside;
 use weighing::net_of;
@@ -34,10 +36,10 @@ pub fn with_threshold(sending: Sending, threshold: Threshold) -> Sending
 }
 
 // Its first answer is that of a stable sample.
-pub fn started(profile: Profile, weighing: Weighing, sending: Sending) -> Sending
-    ensures { λ r. ⌜ r ≡ meaning.started profile weighing sending ⌝ }
+pub fn started(scale: Scale, weighing: Weighing, sending: Sending) -> Sending
+    ensures { λ r. ⌜ r ≡ meaning.startedBy scale weighing sending ⌝ }
 {
-    if is_outside(profile, weighing) {
+    if is_outside(scale, weighing) {
         return sending;
     }
     let threshold = sending.threshold;
@@ -133,7 +135,7 @@ pub fn changed(profile: Profile, state: State) -> Reaction
 {
     let weighing = state.weighing;
     let sending = state.sending;
-    if is_outside(profile, weighing) {
+    if is_outside(scale_of(profile), weighing) {
         let answer = told_once(profile, weighing, sending.outside);
         return answered(with_sending(state, gone_outside(sending)), answer);
     }

@@ -16,6 +16,7 @@ use model::State;
 use model::answered;
 use model::is_off;
 use model::is_pending;
+use model::scale_of;
 use model::with_sending;
 use model::with_waiting;
 use model::with_weighing;
@@ -48,9 +49,10 @@ fn attended(profile: Profile, state: State) -> Reaction
         let waiting = state.waiting;
         let pending = waiting.pending;
         let sending = state.sending;
+        let scale = scale_of(profile);
         let free = with_waiting(state, not_waiting());
-        let next = with_sending(free, sending_of(profile, pending, weighing, sending));
-        return measured_reaction(next, settled(profile, pending, weighing));
+        let next = with_sending(free, sending_of(scale, pending, weighing, sending));
+        return measured_reaction(next, settled(scale, pending, weighing));
     }
     waited(profile, state)
 }
@@ -74,14 +76,41 @@ pub fn sampled(state: State, load: Load, stable: bool) -> State
     with_weighing(state, with_sample(weighing, load, stable))
 }
 
-pub fn sample_reaction(profile: Profile, state: State, load: Load, stable: bool) -> Reaction
-    ensures { λ r. ⌜ r ≡ meaning.sampleReaction profile state load stable ⌝ }
+// What the latest sample of a state gives.
+fn latest_reaction(profile: Profile, state: State) -> Reaction
+    ensures { λ r. ⌜ r ≡ meaning.latestReaction profile state ⌝ }
 {
     let waiting = state.waiting;
     let pending = waiting.pending;
-    let after = sampled(state, load, stable);
     if is_pending(pending) {
-        return attended(profile, after);
+        return attended(profile, state);
     }
-    unasked(profile, after)
+    unasked(profile, state)
+}
+
+// The groups that a sample can change, of another state. Line and display stay, so no way of a sample has to copy them.
+fn with_groups_of(state: State, other: State) -> State
+    ensures { λ r. ⌜ r ≡ meaning.withGroupsOf state other ⌝ }
+{
+    let line = state.line;
+    let weighing = other.weighing;
+    let waiting = other.waiting;
+    let sending = other.sending;
+    let display = state.display;
+    State {
+        line,
+        weighing,
+        waiting,
+        sending,
+        display,
+    }
+}
+
+pub fn sample_reaction(profile: Profile, state: State, load: Load, stable: bool) -> Reaction
+    ensures { λ r. ⌜ r ≡ meaning.sampleReaction profile state load stable ⌝ }
+{
+    let reaction = latest_reaction(profile, sampled(state, load, stable));
+    let next = reaction.state;
+    let answer = reaction.answer;
+    answered(with_groups_of(state, next), answer)
 }

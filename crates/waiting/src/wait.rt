@@ -13,18 +13,20 @@ use answer::plain;
 use model::Pending;
 use model::Profile;
 use model::Reaction;
+use model::Scale;
 use model::Sending;
 use model::State;
 use model::Waiting;
 use model::Weighing;
 use model::answered;
+use model::scale_of;
 use model::with_sending;
 use model::with_waiting;
 use weighing::Measured;
-use weighing::tared;
+use weighing::tared_by;
 use weighing::unchanged;
-use weighing::weighed;
-use weighing::zeroed;
+use weighing::weighed_by;
+use weighing::zeroed_by;
 
 // The identification of what waits.
 fn place_of(pending: Pending) -> u8
@@ -55,50 +57,51 @@ pub fn not_waiting() -> Waiting
 }
 
 // What a waiting command makes of a stable sample.
-pub fn settled(profile: Profile, pending: Pending, weighing: Weighing) -> Measured
-    ensures { λ r. ⌜ r ≡ meaning.settled profile pending weighing ⌝ }
+pub fn settled(scale: Scale, pending: Pending, weighing: Weighing) -> Measured
+    ensures { λ r. ⌜ r ≡ meaning.settledBy scale pending weighing ⌝ }
 {
     match pending {
         Pending::Nothing => unchanged(weighing, Answer::Nothing),
-        Pending::Weigh => unchanged(weighing, weighed(profile, weighing)),
-        Pending::Zero => zeroed(profile, weighing, Z, Status::A),
-        Pending::Tare => tared(profile, weighing, T),
-        Pending::Change => unchanged(weighing, weighed(profile, weighing)),
+        Pending::Weigh => unchanged(weighing, weighed_by(scale, weighing)),
+        Pending::Zero => zeroed_by(scale, weighing, Z, Status::A),
+        Pending::Tare => tared_by(scale, weighing, T),
+        Pending::Change => unchanged(weighing, weighed_by(scale, weighing)),
     }
 }
 
 // SR runs from then on.
-pub fn sending_of(
-    profile: Profile,
-    pending: Pending,
-    weighing: Weighing,
-    sending: Sending,
-) -> Sending
-    ensures { λ r. ⌜ r ≡ meaning.sendingOf profile pending weighing sending ⌝ }
+pub fn sending_of(scale: Scale, pending: Pending, weighing: Weighing, sending: Sending) -> Sending
+    ensures { λ r. ⌜ r ≡ meaning.sendingBy scale pending weighing sending ⌝ }
 {
     match pending {
         Pending::Nothing => sending,
         Pending::Weigh => sending,
         Pending::Zero => sending,
         Pending::Tare => sending,
-        Pending::Change => started(profile, weighing, sending),
+        Pending::Change => started(scale, weighing, sending),
     }
 }
 
 // The latest sample is judged if it is stable; otherwise the command waits.
-pub fn begun(profile: Profile, state: State, pending: Pending) -> Reaction
-    ensures { λ r. ⌜ r ≡ meaning.begun profile state pending ⌝ }
+fn begun_by(scale: Scale, state: State, pending: Pending) -> Reaction
+    ensures { λ r. ⌜ r ≡ meaning.begunBy scale state pending ⌝ }
 {
     let weighing = state.weighing;
     if weighing.sampled & weighing.stable {
         let sending = state.sending;
-        let next = with_sending(state, sending_of(profile, pending, weighing, sending));
-        return measured_reaction(next, settled(profile, pending, weighing));
+        let next = with_sending(state, sending_of(scale, pending, weighing, sending));
+        return measured_reaction(next, settled(scale, pending, weighing));
     }
     answered(
         with_waiting(state, waiting_for(pending, 0)),
         Answer::Nothing,
     )
+}
+
+pub fn begun(profile: Profile, state: State, pending: Pending) -> Reaction
+    ensures { λ r. ⌜ r ≡ meaning.begun profile state pending ⌝ }
+{
+    begun_by(scale_of(profile), state, pending)
 }
 
 // One more unstable sample while a command waits.

@@ -5,96 +5,108 @@ use mathlib.Core.Path.{_≡_}
 use mathlib.Core.Bool.{Bool, true, false}
 use lib.IntN.{ℤ, pos, negℤ, natAbs}
 use lib.Signed.{ltZ}
-use Rattle.answer.specs.Commands.{placeS}
+use Rattle.answer.specs.Commands.{placeS, placeTA}
 use Rattle.answer.specs.declared.answer.Answer.{Answer}
 use Rattle.answer.specs.declared.answer.Answer.the-variants.{Plain, Weight}
 use Rattle.answer.specs.declared.answer.Number.{Number}
 use Rattle.answer.specs.declared.answer.Status.{Status}
-use Rattle.answer.specs.declared.answer.Status.the-variants.{Over, Under}
+use Rattle.answer.specs.declared.answer.Status.the-variants.{A, Over, Under}
 use Rattle.model.specs.declared.profile.Profile.{Profile}
+use Rattle.model.specs.declared.profile.Scale.{Scale}
+use Rattle.model.specs.Profiles.{scaleOf}
 use Rattle.model.specs.declared.weighing.Weighing.{Weighing}
 use Rattle.weighing.specs.declared.weighing.Measured.{Measured}
 use Rattle.answer.specs.Lines.{headOf}
-use Rattle.weighing.specs.Weighings.{grossOf, netOf, stability, numberOf, weighed, withTare, withZero, zeroed, tared}
+use Rattle.weighing.specs.Weighings.{grossOf, netOf, stability, numberIn, weighed, weighedBy, withTare, withZero, zeroed, zeroedBy, tared, taredBy, tareAnswer}
 
-module _ (p : Profile) (w : Weighing) {gross : ℤ} (g : gross ≡ grossOf w) where
-  pub weighed-over : {over : Bool} {a : Answer} → over ≡ ltZ (pos (p .capacity)) gross → over ≡ true → a ≡ Plain (headOf placeS Over) → a ≡ weighed p w
-  unfolding weighed
+module _ (s : Scale) (w : Weighing) {gross : ℤ} (g : gross ≡ grossOf w) where
+  pub weighed-over : {over : Bool} {a : Answer} → over ≡ ltZ (pos (s .capacity)) gross → over ≡ true → a ≡ Plain (headOf placeS Over) → a ≡ weighedBy s w
   weighed-over e t r = rw (r, ← g, ← e, t)
 
-  pub weighed-under : {over under : Bool} {a : Answer} → over ≡ ltZ (pos (p .capacity)) gross → over ≡ false
-      → under ≡ ltZ gross (negℤ (pos (p .underload))) → under ≡ true → a ≡ Plain (headOf placeS Under) → a ≡ weighed p w
-  unfolding weighed
+  pub weighed-under : {over under : Bool} {a : Answer} → over ≡ ltZ (pos (s .capacity)) gross → over ≡ false
+      → under ≡ ltZ gross (negℤ (pos (s .underload))) → under ≡ true → a ≡ Plain (headOf placeS Under) → a ≡ weighedBy s w
   weighed-under e t f u r = rw (r, ← g, ← e, t, ← f, u)
 
   pub weighed-net : {over under : Bool} {net : ℤ} {status : Status} {n : Number} {a : Answer}
-      → over ≡ ltZ (pos (p .capacity)) gross
+      → over ≡ ltZ (pos (s .capacity)) gross
       → over ≡ false
-      → under ≡ ltZ gross (negℤ (pos (p .underload)))
+      → under ≡ ltZ gross (negℤ (pos (s .underload)))
       → under ≡ false
       → net ≡ netOf w
       → status ≡ stability w
-      → n ≡ numberOf p net
+      → n ≡ numberIn (s .resolution) net
       → a ≡ Weight (headOf placeS status) n
-      → a ≡ weighed p w
-  unfolding weighed
+      → a ≡ weighedBy s w
   weighed-net e t f u h s n r = rw (r, n, s, h, ← g, ← e, t, ← f, u)
 
-  pub tared-over : {over : Bool} {a : Answer} {m : Measured} (c : ℕ) → over ≡ ltZ (pos (p .capacity)) gross → over ≡ true
-      → a ≡ Plain (headOf c Over) → m ≡ record { weighing = w; answer = a } → m ≡ tared p w c
-  unfolding tared
+  pub tared-over : {over : Bool} {a : Answer} {m : Measured} (c : ℕ) → over ≡ ltZ (pos (s .capacity)) gross → over ≡ true
+      → a ≡ Plain (headOf c Over) → m ≡ record { weighing = w; answer = a } → m ≡ taredBy s w c
   tared-over c e t r m = rw (m, r, ← g, ← e, t)
 
   pub tared-under : {over under : Bool} {a : Answer} {m : Measured} (c : ℕ)
-      → over ≡ ltZ (pos (p .capacity)) gross
+      → over ≡ ltZ (pos (s .capacity)) gross
       → over ≡ false
       → under ≡ ltZ gross (pos 0)
       → under ≡ true
       → a ≡ Plain (headOf c Under)
       → m ≡ record { weighing = w; answer = a }
-      → m ≡ tared p w c
-  unfolding tared
+      → m ≡ taredBy s w c
   tared-under c e t f u r m = rw (m, r, ← g, ← e, t, ← f, u)
 
   pub tared-gross : {over under : Bool} {status : Status} {n : Number} {a : Answer} {v : Weighing} (c : ℕ)
-      → over ≡ ltZ (pos (p .capacity)) gross
+      → over ≡ ltZ (pos (s .capacity)) gross
       → over ≡ false
       → under ≡ ltZ gross (pos 0)
       → under ≡ false
       → status ≡ stability w
-      → n ≡ numberOf p gross
+      → n ≡ numberIn (s .resolution) gross
       → a ≡ Weight (headOf c status) n
       → {tare : ℕ}
       → tare ≡ natAbs (grossOf w)
       → v ≡ withTare w tare
-      → record { weighing = v; answer = a } ≡ tared p w c
-  unfolding tared
+      → record { weighing = v; answer = a } ≡ taredBy s w c
   tared-gross c e t f u s n r k v = rw (v, k, r, n, s, ← g, ← e, t, ← f, u)
 
-module _ (p : Profile) (w : Weighing) {load : ℤ} (g : load ≡ w .load .0) where
-  pub zeroed-over : {over : Bool} {a : Answer} {m : Measured} (c : ℕ) (granted : Status) → over ≡ ltZ (pos (p .zeroing)) load → over ≡ true
-      → a ≡ Plain (headOf c Over) → m ≡ record { weighing = w; answer = a } → m ≡ zeroed p w c granted
-  unfolding zeroed
+module _ (s : Scale) (w : Weighing) {load : ℤ} (g : load ≡ w .load .0) where
+  pub zeroed-over : {over : Bool} {a : Answer} {m : Measured} (c : ℕ) (granted : Status) → over ≡ ltZ (pos (s .zeroing)) load → over ≡ true
+      → a ≡ Plain (headOf c Over) → m ≡ record { weighing = w; answer = a } → m ≡ zeroedBy s w c granted
   zeroed-over c granted e t r m = rw (m, r, ← g, ← e, t)
 
   pub zeroed-under : {over under : Bool} {a : Answer} {m : Measured} (c : ℕ) (granted : Status)
-      → over ≡ ltZ (pos (p .zeroing)) load
+      → over ≡ ltZ (pos (s .zeroing)) load
       → over ≡ false
-      → under ≡ ltZ load (negℤ (pos (p .zeroing)))
+      → under ≡ ltZ load (negℤ (pos (s .zeroing)))
       → under ≡ true
       → a ≡ Plain (headOf c Under)
       → m ≡ record { weighing = w; answer = a }
-      → m ≡ zeroed p w c granted
-  unfolding zeroed
+      → m ≡ zeroedBy s w c granted
   zeroed-under c granted e t f u r m = rw (m, r, ← g, ← e, t, ← f, u)
 
   pub zeroed-load : {over under : Bool} {a : Answer} {v : Weighing} (c : ℕ) (granted : Status)
-      → over ≡ ltZ (pos (p .zeroing)) load
+      → over ≡ ltZ (pos (s .zeroing)) load
       → over ≡ false
-      → under ≡ ltZ load (negℤ (pos (p .zeroing)))
+      → under ≡ ltZ load (negℤ (pos (s .zeroing)))
       → under ≡ false
       → a ≡ Plain (headOf c granted)
       → v ≡ withZero w
-      → record { weighing = v; answer = a } ≡ zeroed p w c granted
-  unfolding zeroed
+      → record { weighing = v; answer = a } ≡ zeroedBy s w c granted
   zeroed-load c granted e t f u r v = rw (v, r, ← g, ← e, t, ← f, u)
+
+-- ---- by the scale of a profile
+
+module _ (p : Profile) (w : Weighing) {s : Scale} (by : s ≡ scaleOf p) where
+  pub weighed-scale : {a : Answer} → a ≡ weighedBy s w → a ≡ weighed p w
+  unfolding weighed
+  weighed-scale a = rw (a, by)
+
+  pub zeroed-scale : {m : Measured} (c : ℕ) (granted : Status) → m ≡ zeroedBy s w c granted → m ≡ zeroed p w c granted
+  unfolding zeroed
+  zeroed-scale c granted m = rw (m, by)
+
+  pub tared-scale : {m : Measured} (c : ℕ) → m ≡ taredBy s w c → m ≡ tared p w c
+  unfolding tared
+  tared-scale c m = rw (m, by)
+
+pub tare-scale : (p : Profile) (tare : ℕ) {s : Scale} {net : ℤ} {n : Number} {a : Answer} → s ≡ scaleOf p → net ≡ pos tare
+    → n ≡ numberIn (s .resolution) net → a ≡ Weight (headOf placeTA A) n → a ≡ tareAnswer p tare
+tare-scale p tare by net n a = rw (a, n, net, by)

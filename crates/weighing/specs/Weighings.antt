@@ -12,10 +12,13 @@ use Rattle.answer.specs.declared.answer.Number.{Number}
 use Rattle.answer.specs.declared.answer.Status.{Status}
 use Rattle.answer.specs.declared.answer.Status.the-variants.{A, S, D, Over, Under}
 use Rattle.model.specs.declared.profile.Profile.{Profile}
+use Rattle.model.specs.declared.profile.Scale.{Scale}
+use Rattle.model.specs.Profiles.{scaleOf}
 use Rattle.weight.specs.declared.loads.Load.{Load}
 use Rattle.model.specs.declared.weighing.Weighing.{Weighing}
 use Rattle.weighing.specs.declared.weighing.Measured.{Measured}
 use Rattle.weight.specs.Printing.{printedNumber}
+use Rattle.weight.specs.declared.rounding.Resolution.{Resolution}
 
 -- ---- weights
 
@@ -28,9 +31,11 @@ abbrev pub netOf : Weighing → ℤ
 netOf w = grossOf w -ℤ pos (w .tare .0)
 
 -- a weight as it is printed
+abbrev pub numberIn : Resolution → ℤ → Number
+numberIn r weight = record { decimals = r .decimals; places = printedNumber r weight .places; unit = r .unit }
+
 abbrev pub numberOf : Profile → ℤ → Number
-numberOf p weight =
-    record { decimals = p .resolution .decimals; places = printedNumber (p .resolution) weight .places; unit = p .resolution .unit }
+numberOf p weight = numberIn (p .resolution) weight
 
 -- S for a stable sample, D for one that is not
 abbrev pub stability : Weighing → Status
@@ -45,14 +50,20 @@ abbrev pub inLimits : ℕ → Bool → Bool → Answer → Answer
 inLimits c over under granted = cond over (Plain (headOf c Over)) (cond under (Plain (headOf c Under)) granted)
 
 -- gross > C or gross < -U
+abbrev pub outsideBy : Scale → Weighing → Bool
+outsideBy s w = ltZ (pos (s .capacity)) (grossOf w) || ltZ (grossOf w) (negℤ (pos (s .underload)))
+
 abbrev pub isOutside : Profile → Weighing → Bool
-isOutside p w = ltZ (pos (p .capacity)) (grossOf w) || ltZ (grossOf w) (negℤ (pos (p .underload)))
+isOutside p w = outsideBy (scaleOf p) w
 
 -- S, SI, SIR: gross > C gives S +, gross < -U gives S -, else the net
+abbrev pub weighedBy : Scale → Weighing → Answer
+weighedBy s w =
+    inLimits placeS (ltZ (pos (s .capacity)) (grossOf w)) (ltZ (grossOf w) (negℤ (pos (s .underload))))
+    (Weight (headOf placeS (stability w)) (numberIn (s .resolution) (netOf w)))
+
 unfoldable pub weighed : Profile → Weighing → Answer
-weighed p w =
-    inLimits placeS (ltZ (pos (p .capacity)) (grossOf w)) (ltZ (grossOf w) (negℤ (pos (p .underload))))
-    (Weight (headOf placeS (stability w)) (numberOf p (netOf w)))
+weighed p w = weighedBy (scaleOf p) w
 
 -- zero becomes the load, and tare becomes 0
 abbrev pub withZero : Weighing → Weighing
@@ -65,24 +76,30 @@ abbrev pub withSample : Weighing → Load → Bool → Weighing
 withSample w load stable = record { zero = w .zero; tare = w .tare; sampled = true; load = load; stable = stable }
 
 -- Z, ZI: load > R gives +, load < -R gives -; else zero becomes the load and tare becomes 0
-unfoldable pub zeroed : Profile → Weighing → ℕ → Status → Measured
-zeroed p w c granted =
-    let over = ltZ (pos (p .zeroing)) (w .load .0) in
-    let under = ltZ (w .load .0) (negℤ (pos (p .zeroing))) in
+abbrev pub zeroedBy : Scale → Weighing → ℕ → Status → Measured
+zeroedBy s w c granted =
+    let over = ltZ (pos (s .zeroing)) (w .load .0) in
+    let under = ltZ (w .load .0) (negℤ (pos (s .zeroing))) in
     record {
       weighing = chosenWeighing (over || under) w (withZero w);
       answer = inLimits c over under (Plain (headOf c granted));
     }
 
+unfoldable pub zeroed : Profile → Weighing → ℕ → Status → Measured
+zeroed p w c granted = zeroedBy (scaleOf p) w c granted
+
 -- T, TI: gross > C gives +, gross < 0 gives -; else tare becomes gross, which has no sign then, and is the weight of the answer
-unfoldable pub tared : Profile → Weighing → ℕ → Measured
-tared p w c =
-    let over = ltZ (pos (p .capacity)) (grossOf w) in
+abbrev pub taredBy : Scale → Weighing → ℕ → Measured
+taredBy s w c =
+    let over = ltZ (pos (s .capacity)) (grossOf w) in
     let under = ltZ (grossOf w) (pos 0) in
     record {
       weighing = chosenWeighing (over || under) w (withTare w (natAbs (grossOf w)));
-      answer = inLimits c over under (Weight (headOf c (stability w)) (numberOf p (grossOf w)));
+      answer = inLimits c over under (Weight (headOf c (stability w)) (numberIn (s .resolution) (grossOf w)));
     }
+
+unfoldable pub tared : Profile → Weighing → ℕ → Measured
+tared p w c = taredBy (scaleOf p) w c
 
 -- TA: the tare as a weight
 abbrev pub tareAnswer : Profile → ℕ → Answer

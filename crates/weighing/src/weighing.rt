@@ -10,7 +10,9 @@ use answer::Status;
 use answer::TA;
 use answer::plain;
 use model::Profile;
+use model::Scale;
 use model::Weighing;
+use model::scale_of;
 use weight::Load;
 use weight::Micrograms;
 use weight::NO_TARE;
@@ -46,10 +48,10 @@ pub fn net_of(weighing: Weighing) -> Micrograms
 }
 
 // A weight as it is printed.
-fn number_of(profile: Profile, weight: Micrograms) -> Number
-    ensures { λ r. ⌜ r ≡ meaning.numberOf profile (weight .0) ⌝ }
+fn number_of(scale: Scale, weight: Micrograms) -> Number
+    ensures { λ r. ⌜ r ≡ meaning.numberIn (scale .resolution) (weight .0) ⌝ }
 {
-    let resolution = profile.resolution;
+    let resolution = scale.resolution;
     let unit = resolution.unit;
     let printed = printed_number(resolution, weight);
     let places = printed.places;
@@ -88,25 +90,31 @@ pub fn stability(weighing: Weighing) -> Status
 }
 
 // Whether a load is out of range for a weight.
-pub fn is_outside(profile: Profile, weighing: Weighing) -> bool
-    ensures { λ r. ⌜ r ≡ meaning.isOutside profile weighing ⌝ }
+pub fn is_outside(scale: Scale, weighing: Weighing) -> bool
+    ensures { λ r. ⌜ r ≡ meaning.outsideBy scale weighing ⌝ }
 {
     let gross = gross_of(weighing);
-    is_over(gross, profile.capacity) | is_under(gross, profile.underload)
+    is_over(gross, scale.capacity) | is_under(gross, scale.underload)
 }
 
 // S, SI, SIR and SR.
+pub fn weighed_by(scale: Scale, weighing: Weighing) -> Answer
+    ensures { λ r. ⌜ r ≡ meaning.weighedBy scale weighing ⌝ }
+{
+    let gross = gross_of(weighing);
+    if is_over(gross, scale.capacity) {
+        return plain(S, Status::Over);
+    }
+    if is_under(gross, scale.underload) {
+        return plain(S, Status::Under);
+    }
+    weight_answer(S, stability(weighing), number_of(scale, net_of(weighing)))
+}
+
 pub fn weighed(profile: Profile, weighing: Weighing) -> Answer
     ensures { λ r. ⌜ r ≡ meaning.weighed profile weighing ⌝ }
 {
-    let gross = gross_of(weighing);
-    if is_over(gross, profile.capacity) {
-        return plain(S, Status::Over);
-    }
-    if is_under(gross, profile.underload) {
-        return plain(S, Status::Under);
-    }
-    weight_answer(S, stability(weighing), number_of(profile, net_of(weighing)))
+    weighed_by(scale_of(profile), weighing)
 }
 
 // Zero becomes the load, and tare becomes 0.
@@ -152,15 +160,15 @@ pub fn with_sample(weighing: Weighing, load: Load, stable: bool) -> Weighing
 }
 
 // Z and ZI, with the status of what is granted.
-pub fn zeroed(profile: Profile, weighing: Weighing, command: u8, granted: Status) -> Measured
-    ensures { λ r. ⌜ r ≡ meaning.zeroed profile weighing command granted ⌝ }
+pub fn zeroed_by(scale: Scale, weighing: Weighing, command: u8, granted: Status) -> Measured
+    ensures { λ r. ⌜ r ≡ meaning.zeroedBy scale weighing command granted ⌝ }
 {
     let load = weighing.load;
     let weight = from_load(load);
-    if is_over(weight, profile.zeroing) {
+    if is_over(weight, scale.zeroing) {
         return unchanged(weighing, plain(command, Status::Over));
     }
-    if is_under(weight, profile.zeroing) {
+    if is_under(weight, scale.zeroing) {
         return unchanged(weighing, plain(command, Status::Under));
     }
     Measured {
@@ -169,18 +177,24 @@ pub fn zeroed(profile: Profile, weighing: Weighing, command: u8, granted: Status
     }
 }
 
+pub fn zeroed(profile: Profile, weighing: Weighing, command: u8, granted: Status) -> Measured
+    ensures { λ r. ⌜ r ≡ meaning.zeroed profile weighing command granted ⌝ }
+{
+    zeroed_by(scale_of(profile), weighing, command, granted)
+}
+
 // T and TI.
-pub fn tared(profile: Profile, weighing: Weighing, command: u8) -> Measured
-    ensures { λ r. ⌜ r ≡ meaning.tared profile weighing command ⌝ }
+pub fn tared_by(scale: Scale, weighing: Weighing, command: u8) -> Measured
+    ensures { λ r. ⌜ r ≡ meaning.taredBy scale weighing command ⌝ }
 {
     let gross = gross_of(weighing);
-    if is_over(gross, profile.capacity) {
+    if is_over(gross, scale.capacity) {
         return unchanged(weighing, plain(command, Status::Over));
     }
     if is_under(gross, 0) {
         return unchanged(weighing, plain(command, Status::Under));
     }
-    let answer = weight_answer(command, stability(weighing), number_of(profile, gross));
+    let answer = weight_answer(command, stability(weighing), number_of(scale, gross));
     let load = weighing.load;
     let zero = weighing.zero;
     Measured {
@@ -189,9 +203,15 @@ pub fn tared(profile: Profile, weighing: Weighing, command: u8) -> Measured
     }
 }
 
+pub fn tared(profile: Profile, weighing: Weighing, command: u8) -> Measured
+    ensures { λ r. ⌜ r ≡ meaning.tared profile weighing command ⌝ }
+{
+    tared_by(scale_of(profile), weighing, command)
+}
+
 // TA: the tare as a weight.
 pub fn tare_answer(profile: Profile, tare: Tare) -> Answer
     ensures { λ r. ⌜ r ≡ meaning.tareAnswer profile (tare .0) ⌝ }
 {
-    weight_answer(TA, Status::A, number_of(profile, from_tare(tare)))
+    weight_answer(TA, Status::A, number_of(scale_of(profile), from_tare(tare)))
 }

@@ -1,5 +1,6 @@
 use borrow.Author.Tests.{leb-true}
 use borrow.Author.Needs.{needs}
+use Rattle.commands.specs.Reactions.{changing}
 use Rattle.commands.proofs.perform.performed.Statement.{statement}
 use Rattle.commands.proofs.perform.performed.Tie as tie
 
@@ -51,8 +52,11 @@ preset-requires c κs = search needs
 enum-known-verdict-7 : tie.Need-enum-known-verdict-7
 enum-known-verdict-7 c = search needs
 
-change-requires : tie.Need-change-requires
-change-requires c κs = search needs
+with-change-requires : tie.Need-with-change-requires
+with-change-requires c κs = search needs
+
+begun-requires : tie.Need-begun-requires
+begun-requires c κs = search needs
 
 enum-known-verdict-8 : tie.Need-enum-known-verdict-8
 enum-known-verdict-8 c = search needs
@@ -83,7 +87,8 @@ returns-7 : tie.Need-returns-7
 returns-7 c = rw (c .preset .ensures, c .before .before .verdict6 .given .1)
 
 returns-8 : tie.Need-returns-8
-returns-8 c = rw (c .change .ensures, c .before .before .verdict7 .given .1)
+unfolding changing
+returns-8 c = rw (c .begun .ensures, c .before .with-change .ensures, c .before .before .before .verdict7 .given .1)
 
 returns-9 : tie.Need-returns-9
 returns-9 c = rw (c .show-text .ensures, c .before .before .verdict8 .given .1)
@@ -108,7 +113,8 @@ performed-spec =
     enum-known-verdict-6
     preset-requires
     enum-known-verdict-7
-    change-requires
+    with-change-requires
+    begun-requires
     enum-known-verdict-8
     show-text-requires
     returns

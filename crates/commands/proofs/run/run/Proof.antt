@@ -36,12 +36,14 @@ enum-told-5 c = search needs
 run-showing-requires : tie.Need-run-showing-requires
 run-showing-requires c κs = search needs
 
--- /work/main/target/rlib/weight.rlib/interface/lang/src/changes.rt:8:38
 enum-told-6 : tie.Need-enum-told-6
 enum-told-6 c = search needs
 
-change-requires : tie.Need-change-requires
-change-requires c κs = search needs
+with-change-requires : tie.Need-with-change-requires
+with-change-requires c κs = search needs
+
+begun-requires : tie.Need-begun-requires
+begun-requires c κs = search needs
 
 enum-told-7 : tie.Need-enum-told-7
 enum-told-7 c = search needs
@@ -95,7 +97,8 @@ run-spec =
     enum-told-5
     run-showing-requires
     enum-told-6
-    change-requires
+    with-change-requires
+    begun-requires
     enum-told-7
     run-taring-requires
     enum-told-8

@@ -3,6 +3,9 @@ use Rattle.waiting.proofs.Changes.{changed-outside, changed-due, change
 use Rattle.waiting.proofs.change.changed.Statement.{statement}
 use Rattle.waiting.proofs.change.changed.Tie as tie
 
+scale-of-requires : tie.Need-scale-of-requires
+scale-of-requires c κs = search needs
+
 is-outside-requires : tie.Need-is-outside-requires
 is-outside-requires c κs = search needs
 
@@ -55,6 +58,7 @@ pub changed-spec : {M : Type 1} → statement M
 changed-spec =
     tie.close
     (tie.spec
+    scale-of-requires
     is-outside-requires
     told-once-requires
     gone-outside-requires

@@ -1,7 +1,10 @@
 use borrow.Author.Needs.{needs}
-use Rattle.waiting.specs.Waits.{settledReaction}
+use Rattle.waiting.proofs.Samples.{attended-stable}
 use Rattle.waiting.proofs.sample.attended.Statement.{statement}
 use Rattle.waiting.proofs.sample.attended.Tie as tie
+
+scale-of-requires : tie.Need-scale-of-requires
+scale-of-requires c κs = search needs
 
 not-waiting-requires : tie.Need-not-waiting-requires
 not-waiting-requires c κs = search needs
@@ -22,19 +25,20 @@ measured-reaction-requires : tie.Need-measured-reaction-requires
 measured-reaction-requires c κs = search needs
 
 returns : tie.Need-returns
-unfolding settledReaction
 returns c =
     let sends = c .before .before in
     let waits = sends .before .before in
-    rw (
-      c .measured-reaction .ensures,
-      c .before .settled .ensures,
-      sends .with-sending .ensures,
-      sends .before .sending-of .ensures,
-      waits .with-waiting .ensures,
-      waits .before .not-waiting .ensures,
-      waits .before .before .before .before .if1 .taken,
-    )
+    let scale = waits .before .before in
+    let tested = scale .before .before .before in
+    attended-stable (tested .before .before .args .profile) (tested .before .before .args .state)
+    (tested .if1 .taken)
+    (scale .scale-of .ensures)
+    (waits .before .not-waiting .ensures)
+    (waits .with-waiting .ensures)
+    (sends .before .sending-of .ensures)
+    (sends .with-sending .ensures)
+    (c .before .settled .ensures)
+    (c .measured-reaction .ensures)
 
 waited-requires : tie.Need-waited-requires
 waited-requires c κs = search needs
@@ -46,6 +50,7 @@ pub attended-spec : {M : Type 1} → statement M
 attended-spec =
     tie.close
     (tie.spec
+    scale-of-requires
     not-waiting-requires
     with-waiting-requires
     sending-of-requires

@@ -11,8 +11,8 @@ unchanged-requires c κs = search needs
 enum-told-2 : tie.Need-enum-told-2
 enum-told-2 c = search needs
 
-weighed-requires : tie.Need-weighed-requires
-weighed-requires c κs = search needs
+weighed-by-requires : tie.Need-weighed-by-requires
+weighed-by-requires c κs = search needs
 
 unchanged-requires-2 : tie.Need-unchanged-requires-2
 unchanged-requires-2 c κs = search needs
@@ -20,20 +20,20 @@ unchanged-requires-2 c κs = search needs
 enum-told-3 : tie.Need-enum-told-3
 enum-told-3 c = search needs
 
-zeroed-requires : tie.Need-zeroed-requires
-zeroed-requires c κs = search needs
+zeroed-by-requires : tie.Need-zeroed-by-requires
+zeroed-by-requires c κs = search needs
 
 enum-told-4 : tie.Need-enum-told-4
 enum-told-4 c = search needs
 
-tared-requires : tie.Need-tared-requires
-tared-requires c κs = search needs
+tared-by-requires : tie.Need-tared-by-requires
+tared-by-requires c κs = search needs
 
 enum-told-5 : tie.Need-enum-told-5
 enum-told-5 c = search needs
 
-weighed-requires-2 : tie.Need-weighed-requires-2
-weighed-requires-2 c κs = search needs
+weighed-by-requires-2 : tie.Need-weighed-by-requires-2
+weighed-by-requires-2 c κs = search needs
 
 unchanged-requires-3 : tie.Need-unchanged-requires-3
 unchanged-requires-3 c κs = search needs
@@ -42,16 +42,16 @@ returns : tie.Need-returns
 returns c = rw (c .unchanged .ensures, c .before .enum-told .given .1)
 
 returns-2 : tie.Need-returns-2
-returns-2 c = rw (c .unchanged2 .ensures, c .before .weighed .ensures, c .before .before .enum-told2 .given .1)
+returns-2 c = rw (c .unchanged2 .ensures, c .before .weighed-by .ensures, c .before .before .enum-told2 .given .1)
 
 returns-3 : tie.Need-returns-3
-returns-3 c = rw (c .zeroed .ensures, c .before .enum-told3 .given .1)
+returns-3 c = rw (c .zeroed-by .ensures, c .before .enum-told3 .given .1)
 
 returns-4 : tie.Need-returns-4
-returns-4 c = rw (c .tared .ensures, c .before .enum-told4 .given .1)
+returns-4 c = rw (c .tared-by .ensures, c .before .enum-told4 .given .1)
 
 returns-5 : tie.Need-returns-5
-returns-5 c = rw (c .unchanged3 .ensures, c .before .weighed2 .ensures, c .before .before .enum-told5 .given .1)
+returns-5 c = rw (c .unchanged3 .ensures, c .before .weighed-by2 .ensures, c .before .before .enum-told5 .given .1)
 
 pub settled-spec : {M : Type 1} → statement M
 settled-spec =
@@ -60,14 +60,14 @@ settled-spec =
     enum-told
     unchanged-requires
     enum-told-2
-    weighed-requires
+    weighed-by-requires
     unchanged-requires-2
     enum-told-3
-    zeroed-requires
+    zeroed-by-requires
     enum-told-4
-    tared-requires
+    tared-by-requires
     enum-told-5
-    weighed-requires-2
+    weighed-by-requires-2
     unchanged-requires-3
     returns
     returns-2

@@ -23,7 +23,8 @@ use Rattle.weighing.specs.Weighings.{isOutside, weighed}
 use Rattle.waiting.proofs.Waits.{settled-reaction-scale}
 use Rattle.weight.specs.declared.loads.Load.{Load}
 use Rattle.model.specs.Groups.{chosenReaction, notWaiting, reaction, withSending, withWaiting}
-use Rattle.waiting.specs.Waits.{isAwaited, latestReaction, measuredReaction, placeOfPending, sampleReaction, sampledState, sendingBy, settledBy, settledReaction, unaskedAs, waited, withGroupsOf}
+use Rattle.waiting.specs.Parts.{latestReaction, sendingBy, settledBy, withGroupsOf}
+use Rattle.waiting.specs.Waits.{isAwaited, measuredReaction, placeOfPending, sampleReaction, sampledState, settledReaction, unaskedAs, waited}
 use Rattle.model.specs.Sendings.{isOff}
 use Rattle.model.specs.States.{isPending}
 

@@ -10,7 +10,8 @@ use Rattle.answer.specs.declared.answer.Status.the-variants.{I}
 use Rattle.model.specs.declared.react.Reaction.{Reaction}
 use Rattle.weighing.specs.declared.weighing.Measured.{Measured}
 use Rattle.model.specs.Groups.{notWaiting, reaction, withSending, withWaiting}
-use Rattle.waiting.specs.Waits.{begun, begunBy, measuredReaction, placeOfPending, sendingBy, sendingOf, settled, settledBy, settledReaction, settledReactionBy, waited}
+use Rattle.waiting.specs.Parts.{begunBy, sendingBy, settledBy, settledReactionBy}
+use Rattle.waiting.specs.Waits.{begun, measuredReaction, placeOfPending, sendingOf, settled, settledReaction, waited}
 use Rattle.answer.specs.Lines.{headOf}
 use Rattle.model.specs.declared.profile.Profile.{Profile}
 use Rattle.model.specs.declared.profile.Scale.{Scale}

@@ -9,7 +9,6 @@ use Rattle.answer.specs.declared.answer.Answer.the-variants.{Plain}
 use Rattle.answer.specs.declared.answer.Answer.the-variants as answers
 use Rattle.answer.specs.declared.answer.Status.the-variants.{A, I}
 use Rattle.model.specs.declared.profile.Profile.{Profile}
-use Rattle.model.specs.declared.profile.Scale.{Scale}
 use Rattle.model.specs.declared.state.Pending.{Pending}
 use Rattle.model.specs.declared.sending.Mode.{Mode}
 use Rattle.model.specs.declared.sending.Mode.the-variants.{Off, EachSample, OnChange}
@@ -24,8 +23,8 @@ use Rattle.model.specs.States.{isPending}
 use Rattle.model.specs.declared.react.Reaction.{Reaction}
 use Rattle.weighing.specs.declared.weighing.Measured.{Measured}
 use Rattle.answer.specs.Lines.{headOf}
-use Rattle.waiting.specs.Changes.{started, startedBy, changeReaction}
-use Rattle.weighing.specs.Weighings.{weighed, weighedBy, withSample, zeroed, zeroedBy, tared, taredBy}
+use Rattle.waiting.specs.Changes.{started, changeReaction}
+use Rattle.weighing.specs.Weighings.{weighed, withSample, zeroed, tared}
 
 -- the weighing that a command made, and its answer
 abbrev pub measuredReaction : State → Measured → Reaction
@@ -57,41 +56,16 @@ sendingOf p Zero w c = c
 sendingOf p Tare w c = c
 sendingOf p Change w c = started p w c
 
--- the same by what weighing asks of a profile
-abbrev pub settledBy : Scale → Pending → Weighing → Measured
-settledBy k Nothing w = record { weighing = w; answer = answers.Nothing }
-settledBy k Weigh w = record { weighing = w; answer = weighedBy k w }
-settledBy k Zero w = zeroedBy k w placeZ A
-settledBy k Tare w = taredBy k w placeT
-settledBy k Change w = record { weighing = w; answer = weighedBy k w }
-
-abbrev pub sendingBy : Scale → Pending → Weighing → Sending → Sending
-sendingBy k Nothing w c = c
-sendingBy k Weigh w c = c
-sendingBy k Zero w c = c
-sendingBy k Tare w c = c
-sendingBy k Change w c = startedBy k w c
-
 -- at the latest sample of a state
 unfoldable pub settledReaction : Profile → State → Pending → Reaction
 settledReaction p s pending =
     measuredReaction (withSending s (sendingOf p pending (s .weighing) (s .sending))) (settled p pending (s .weighing))
-
-abbrev pub settledReactionBy : Scale → State → Pending → Reaction
-settledReactionBy k s pending =
-    measuredReaction (withSending s (sendingBy k pending (s .weighing) (s .sending))) (settledBy k pending (s .weighing))
 
 -- judge the latest sample if it is stable, and otherwise wait
 unfoldable pub begun : Profile → State → Pending → Reaction
 begun p s pending =
     chosenReaction (s .weighing .sampled && s .weighing .stable)
     (settledReaction p s pending)
-    (reaction (withWaiting s (record { pending = pending; unstable = 0 })) answers.Nothing)
-
-unfoldable pub begunBy : Scale → State → Pending → Reaction
-begunBy k s pending =
-    chosenReaction (s .weighing .sampled && s .weighing .stable)
-    (settledReactionBy k s pending)
     (reaction (withWaiting s (record { pending = pending; unstable = 0 })) answers.Nothing)
 
 -- one more unstable sample while a command waits: the W-th ends the wait with I
@@ -125,14 +99,3 @@ sampleReaction p s load stable =
     chosenReaction (isPending (s .waiting .pending))
     (chosenReaction stable (settledReaction p (withWaiting t notWaiting) (s .waiting .pending)) (waited p t))
     (unaskedAs (s .sending .mode) p t)
-
--- what the latest sample of a state gives
-abbrev pub latestReaction : Profile → State → Reaction
-latestReaction p s =
-    chosenReaction (isPending (s .waiting .pending))
-    (chosenReaction (s .weighing .stable) (settledReaction p (withWaiting s notWaiting) (s .waiting .pending)) (waited p s))
-    (unaskedAs (s .sending .mode) p s)
-
--- the groups that a sample can change, of another state
-abbrev pub withGroupsOf : State → State → State
-withGroupsOf s t = record { line = s .line; weighing = t .weighing; waiting = t .waiting; sending = t .sending; display = s .display }

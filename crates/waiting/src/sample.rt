@@ -1,6 +1,7 @@
 // What a sample makes of the state.
 ghost use mathlib.Core.Path.{_≡_};
 ghost use Rattle.model.specs.Groups as groups;
+ghost use Rattle.waiting.specs.Parts as parts;
 ghost use Rattle.waiting.specs.Waits as meaning;
 use crate::change::changed;
 use crate::react::measured_reaction;
@@ -78,7 +79,7 @@ pub fn sampled(state: State, load: Load, stable: bool) -> State
 
 // What the latest sample of a state gives.
 fn latest_reaction(profile: Profile, state: State) -> Reaction
-    ensures { λ r. ⌜ r ≡ meaning.latestReaction profile state ⌝ }
+    ensures { λ r. ⌜ r ≡ parts.latestReaction profile state ⌝ }
 {
     let waiting = state.waiting;
     let pending = waiting.pending;
@@ -90,7 +91,7 @@ fn latest_reaction(profile: Profile, state: State) -> Reaction
 
 // The groups that a sample can change, of another state. Line and display stay, so no way of a sample has to copy them.
 fn with_groups_of(state: State, other: State) -> State
-    ensures { λ r. ⌜ r ≡ meaning.withGroupsOf state other ⌝ }
+    ensures { λ r. ⌜ r ≡ parts.withGroupsOf state other ⌝ }
 {
     let line = state.line;
     let weighing = other.weighing;

@@ -1,6 +1,6 @@
 -- `weight::changes::has_moved` meets its contract.
 -- Assumes nothing.
-use mathlib.Core.Path.{_≡_, sym, _∙_}
+use mathlib.Core.Path.{_≡_}
 use mathlib.Core.Bool.{true, _&&_}
 use borrow.Author.Needs.{needs}
 use Rattle.weight.specs.Rounding.{allowedResolution, inRange}
@@ -38,8 +38,7 @@ reaches-threshold-requires c κs =
 returns : tie.Need-returns
 returns c =
     let given = c .before .before .before .before .before .args in
-    c .reaches-threshold .ensures
-    ∙ sym (move-known (given .resolution) (given .threshold .0) (given .last .0) (given .net .0) (known-at (c .before)))
+    rw (move-known (given .resolution) (given .threshold .0) (given .last .0) (given .net .0) (known-at (c .before))) (c .reaches-threshold .ensures)
 
 returns-2 : tie.Need-returns-2
 returns-2 c =

@@ -12,6 +12,7 @@ use Rattle.answer.specs.declared.answer.Answer.the-variants.{Plain}
 use Rattle.answer.specs.declared.answer.Status.{Status}
 use Rattle.answer.specs.declared.answer.Status.the-variants.{A}
 use Rattle.model.specs.declared.profile.Profile.{Profile}
+use Rattle.model.specs.declared.profile.Scale.{Scale}
 use Rattle.model.specs.declared.react.Reaction.{Reaction}
 use Rattle.model.specs.declared.sending.Mode.{Mode}
 use Rattle.model.specs.declared.sending.Mode.the-variants.{Off, EachSample}
@@ -22,10 +23,13 @@ use Rattle.weighing.specs.declared.weighing.Measured.{Measured}
 use Rattle.model.specs.declared.weighing.Weighing.{Weighing}
 use Rattle.commands.specs.Reactions.{changing, informed, modeAfter, run, runAs, sendingAs, showing, showingWeight, taring, unanswered, weighing, zeroing}
 use Rattle.model.specs.Groups.{reaction, withSending, withWeighing}
+use Rattle.model.specs.Profiles.{scaleOf}
 use Rattle.waiting.specs.Changes.{withThreshold}
-use Rattle.waiting.specs.Waits.{begun, measuredReaction}
+use Rattle.waiting.specs.Parts.{begunBy}
+use Rattle.waiting.specs.Waits.{measuredReaction}
+use Rattle.waiting.proofs.Scales.{begun-scale}
 use Rattle.answer.specs.Lines.{headOf}
-use Rattle.weighing.specs.Weighings.{stability, tareAnswer, tared, weighed, withTare, zeroed}
+use Rattle.weighing.specs.Weighings.{stability, tareAnswer, tared, taredBy, weighed, weighedBy, withTare, zeroed, zeroedBy}
 
 -- D and DW
 module _ (s : State) (c : ℕ) {r : Reaction} where
@@ -45,10 +49,10 @@ pub mode-off : (c : ℕ) → (c ≡ placeSIR → ⊥) → Off ≡ modeAfter c
 mode-off c e = rw (ne-eqb c placeSIR e)
 
 -- SR
-pub changing-begun : (p : Profile) (s : State) (threshold : ℕ) {t : State} {r : Reaction}
-    → t ≡ withSending s (withThreshold (s .sending) threshold) → r ≡ begun p t Change → r ≡ changing p s threshold
+pub changing-begun : (p : Profile) (s : State) (threshold : ℕ) {scale : Scale} {t : State} {r : Reaction} → scale ≡ scaleOf p
+    → t ≡ withSending s (withThreshold (s .sending) threshold) → r ≡ begunBy scale t Change → r ≡ changing p s threshold
 unfolding changing
-changing-begun p s threshold t g = rw (g, t)
+changing-begun p s threshold by t g = rw (begun-scale p _ Change by g, t)
 
 module _ (p : Profile) (s : State) (c : ℕ) {r : Reaction} where
   -- by the kind that was found
@@ -72,8 +76,9 @@ module _ (p : Profile) (s : State) (c : ℕ) {r : Reaction} where
     pub run-showing : k ≡ Shows → r ≡ showing s c → r ≡ run p s c
     run-showing = run-as
 
-    pub run-changing : {t : State} → k ≡ Sends → t ≡ withSending s (withThreshold (s .sending) 0) → r ≡ begun p t Change → r ≡ run p s c
-    run-changing is t g = run-as is (changing-begun p s 0 t g)
+    pub run-changing : {scale : Scale} {t : State} → k ≡ Sends → scale ≡ scaleOf p → t ≡ withSending s (withThreshold (s .sending) 0)
+        → r ≡ begunBy scale t Change → r ≡ run p s c
+    run-changing is by t g = run-as is (changing-begun p s 0 by t g)
 
     pub run-taring : k ≡ Tares → r ≡ taring p s c → r ≡ run p s c
     run-taring = run-as
@@ -83,31 +88,32 @@ module _ (p : Profile) (s : State) (c : ℕ) {r : Reaction} where
 
   -- S and Z wait, SI, SIR and ZI do not
   module _ {w : Bool} (asked : w ≡ mayWait c) where
-    pub weighing-begun : {t : State} → w ≡ true → t ≡ sendingAs s Off → r ≡ begun p t Weigh → r ≡ weighing p s c
+    pub weighing-begun : {scale : Scale} {t : State} → w ≡ true → scale ≡ scaleOf p → t ≡ sendingAs s Off → r ≡ begunBy scale t Weigh → r ≡ weighing p s c
     unfolding weighing
-    weighing-begun e t g = rw (g, t, sym asked ∙ e)
+    weighing-begun e by t g = rw (begun-scale p _ Weigh by g, t, sym asked ∙ e)
 
-    pub weighing-at-once : {m : Mode} {t : State} {a : Answer} → w ≡ false → m ≡ modeAfter c → t ≡ sendingAs s m → a ≡ weighed p (s .weighing)
-        → r ≡ reaction t a → r ≡ weighing p s c
-    unfolding weighing
-    weighing-at-once e m t a g = rw (g, t, m, a, sym asked ∙ e)
+    pub weighing-at-once : {m : Mode} {t : State} {scale : Scale} {a : Answer} → w ≡ false → m ≡ modeAfter c → t ≡ sendingAs s m → scale ≡ scaleOf p
+        → a ≡ weighedBy scale (s .weighing) → r ≡ reaction t a → r ≡ weighing p s c
+    unfolding weighing weighed
+    weighing-at-once e m t by a g = rw (g, t, m, a, by, sym asked ∙ e)
 
-    pub zeroing-begun : w ≡ true → r ≡ begun p s Zero → r ≡ zeroing p s c
+    pub zeroing-begun : {scale : Scale} → w ≡ true → scale ≡ scaleOf p → r ≡ begunBy scale s Zero → r ≡ zeroing p s c
     unfolding zeroing
-    zeroing-begun e g = rw (g, sym asked ∙ e)
+    zeroing-begun e by g = rw (begun-scale p s Zero by g, sym asked ∙ e)
 
-    pub zeroing-at-once : {b : Status} {m : Measured} → w ≡ false → b ≡ stability (s .weighing) → m ≡ zeroed p (s .weighing) placeZI b
-        → r ≡ measuredReaction s m → r ≡ zeroing p s c
-    unfolding zeroing
-    zeroing-at-once e b m g = rw (g, m, b, sym asked ∙ e)
+    pub zeroing-at-once : {scale : Scale} {b : Status} {m : Measured} → w ≡ false → scale ≡ scaleOf p → b ≡ stability (s .weighing)
+        → m ≡ zeroedBy scale (s .weighing) placeZI b → r ≡ measuredReaction s m → r ≡ zeroing p s c
+    unfolding zeroing zeroed
+    zeroing-at-once e by b m g = rw (g, m, b, by, sym asked ∙ e)
 
-  pub taring-begun : c ≡ placeT → r ≡ begun p s Tare → r ≡ taring p s c
+  pub taring-begun : {scale : Scale} → c ≡ placeT → scale ≡ scaleOf p → r ≡ begunBy scale s Tare → r ≡ taring p s c
   unfolding taring
-  taring-begun t e = rw (e, eq-eqb c placeT t)
+  taring-begun t by e = rw (begun-scale p s Tare by e, eq-eqb c placeT t)
 
-  pub taring-at-once : {m : Measured} → (c ≡ placeT → ⊥) → c ≡ placeTI → m ≡ tared p (s .weighing) placeTI → r ≡ measuredReaction s m → r ≡ taring p s c
-  unfolding taring
-  taring-at-once t ti m e = rw (e, m, ne-eqb c placeT t, eq-eqb c placeTI ti)
+  pub taring-at-once : {scale : Scale} {m : Measured} → (c ≡ placeT → ⊥) → c ≡ placeTI → scale ≡ scaleOf p
+      → m ≡ taredBy scale (s .weighing) placeTI → r ≡ measuredReaction s m → r ≡ taring p s c
+  unfolding taring tared
+  taring-at-once t ti by m e = rw (e, m, by, ne-eqb c placeT t, eq-eqb c placeTI ti)
 
   pub taring-cleared : {t : State} {w : Weighing} {a : Answer} → (c ≡ placeT → ⊥) → (c ≡ placeTI → ⊥) → c ≡ placeTAC
       → w ≡ withTare (s .weighing) 0 → t ≡ withWeighing s w → a ≡ Plain (headOf placeTAC A) → r ≡ reaction t a → r ≡ taring p s c

@@ -36,6 +36,7 @@ use model::State;
 use model::Text20;
 use model::answered;
 use model::is_pending;
+use model::scale_of;
 use model::with_display;
 use model::with_line;
 use model::with_mode;
@@ -156,7 +157,7 @@ fn performed(profile: Profile, state: State, line: Line, verdict: Verdict) -> Re
         Verdict::Run(command) => run(profile, state, command),
         Verdict::Preset(tare) => preset(profile, state, tare),
         Verdict::Change(threshold) => begun(
-            profile,
+            scale_of(profile),
             with_change(state, threshold),
             Pending::Change,
         ),

@@ -26,6 +26,7 @@ use model::Profile;
 use model::Reaction;
 use model::State;
 use model::answered;
+use model::scale_of;
 use model::with_display;
 use model::with_mode;
 use model::with_sending;
@@ -35,10 +36,10 @@ use waiting::measured_reaction;
 use waiting::with_threshold;
 use weighing::stability;
 use weighing::tare_answer;
-use weighing::tared;
-use weighing::weighed;
+use weighing::tared_by;
+use weighing::weighed_by;
 use weighing::with_tare;
-use weighing::zeroed;
+use weighing::zeroed_by;
 use weight::NO_TARE;
 use weight::NO_THRESHOLD;
 use weight::Threshold;
@@ -87,12 +88,16 @@ fn run_weighing(profile: Profile, state: State, command: u8) -> Reaction
     ensures { λ r. ⌜ r ≡ meaning.weighing profile state command ⌝ }
 {
     if may_wait(command) {
-        return begun(profile, sending_as(state, Mode::Off), Pending::Weigh);
+        return begun(
+            scale_of(profile),
+            sending_as(state, Mode::Off),
+            Pending::Weigh,
+        );
     }
     let weighing = state.weighing;
     answered(
         sending_as(state, mode_after(command)),
-        weighed(profile, weighing),
+        weighed_by(scale_of(profile), weighing),
     )
 }
 
@@ -101,10 +106,13 @@ fn run_zeroing(profile: Profile, state: State, command: u8) -> Reaction
     ensures { λ r. ⌜ r ≡ meaning.zeroing profile state command ⌝ }
 {
     if may_wait(command) {
-        return begun(profile, state, Pending::Zero);
+        return begun(scale_of(profile), state, Pending::Zero);
     }
     let weighing = state.weighing;
-    measured_reaction(state, zeroed(profile, weighing, ZI, stability(weighing)))
+    measured_reaction(
+        state,
+        zeroed_by(scale_of(profile), weighing, ZI, stability(weighing)),
+    )
 }
 
 pub fn weight_shown(display: Display) -> Display
@@ -156,10 +164,10 @@ fn run_taring(profile: Profile, state: State, command: u8) -> Reaction
 {
     let weighing = state.weighing;
     if command == T {
-        return begun(profile, state, Pending::Tare);
+        return begun(scale_of(profile), state, Pending::Tare);
     }
     if command == TI {
-        return measured_reaction(state, tared(profile, weighing, TI));
+        return measured_reaction(state, tared_by(scale_of(profile), weighing, TI));
     }
     if command == TAC {
         let cleared = with_tare(weighing, NO_TARE);
@@ -182,7 +190,11 @@ pub fn run(profile: Profile, state: State, command: u8) -> Reaction
         Kind::Zeroes => run_zeroing(profile, state, command),
         Kind::Resets => unanswered(state),
         Kind::Shows => run_showing(state, command),
-        Kind::Sends => begun(profile, with_change(state, NO_THRESHOLD), Pending::Change),
+        Kind::Sends => begun(
+            scale_of(profile),
+            with_change(state, NO_THRESHOLD),
+            Pending::Change,
+        ),
         Kind::Tares => run_taring(profile, state, command),
         Kind::Unknown => unanswered(state),
     }

@@ -5,7 +5,6 @@ use mathlib.Core.Bool.{Bool, true, false, cond, not}
 use lib.IntN.{ℤ}
 use Rattle.answer.specs.declared.answer.Answer.{Answer}
 use Rattle.answer.specs.declared.answer.Answer.the-variants.{Nothing}
-use Rattle.model.specs.declared.profile.Profile.{Profile}
 use Rattle.model.specs.declared.profile.Scale.{Scale}
 use Rattle.model.specs.declared.react.Reaction.{Reaction}
 use Rattle.model.specs.declared.sending.Mode.the-variants.{OnChange}
@@ -13,9 +12,9 @@ use Rattle.model.specs.declared.sending.Sending.{Sending}
 use Rattle.model.specs.declared.state.State.{State}
 use Rattle.model.specs.declared.weighing.Weighing.{Weighing}
 use Rattle.model.specs.Groups.{reaction, withSending}
-use Rattle.model.specs.Profiles.{scaleOf}
-use Rattle.waiting.specs.Changes.{changeReaction, goneOutside, isDue, keptInside, sent, startedBy}
-use Rattle.weighing.specs.Weighings.{isOutside, outsideBy, netOf, weighed}
+use Rattle.waiting.specs.Changes.{goneOutside, keptInside, sent, startedBy}
+use Rattle.waiting.specs.Parts.{changeReactionBy, isDueBy}
+use Rattle.weighing.specs.Weighings.{outsideBy, netOf, weighedBy}
 use Rattle.weight.specs.Changes.{hasMoved}
 use Rattle.weight.specs.declared.rounding.Micrograms.{Micrograms}
 
@@ -42,31 +41,28 @@ pub sent-is : (w : Weighing) (c : Sending) {n : Micrograms} → n .0 ≡ cond (w
     → record { last = n; threshold = c .threshold; mode = c .mode; owed = not (w .stable); outside = false } ≡ sent w c
 sent-is w c net = ap (λ (z : ℤ). record { last = record { 0 = z }; threshold = c .threshold; mode = c .mode; owed = not (w .stable); outside = false }) net
 
-module _ (p : Profile) (w : Weighing) (c : Sending) where
-  pub due-owed : c .owed ≡ true → w .stable ≡ isDue p w c
+module _ (k : Scale) (w : Weighing) (c : Sending) where
+  pub due-owed : c .owed ≡ true → w .stable ≡ isDueBy k w c
   due-owed e = rw e
 
-  pub due-moved : {n : Micrograms} {b : Bool} → c .owed ≡ false → n .0 ≡ netOf w → b ≡ hasMoved (p .resolution) (c .threshold .0) (c .last .0) (n .0)
-      → b ≡ isDue p w c
+  pub due-moved : {n : Micrograms} {b : Bool} → c .owed ≡ false → n .0 ≡ netOf w → b ≡ hasMoved (k .resolution) (c .threshold .0) (c .last .0) (n .0)
+      → b ≡ isDueBy k w c
   due-moved e net h = rw (h, e, net)
 
 -- ---- a sample
 
-outside-scale : (p : Profile) (w : Weighing) {k : Scale} {out b : Bool} → k ≡ scaleOf p → out ≡ outsideBy k w → out ≡ b → isOutside p w ≡ b
-outside-scale p w k asked e = rw (← k, ← asked, e)
+module _ (k : Scale) (s : State) {out : Bool} (asked : out ≡ outsideBy k (s .weighing)) {c : Sending} {t : State} {r : Reaction} where
+  pub changed-outside : {a : Answer} → out ≡ true → a ≡ cond (s .sending .outside) Nothing (weighedBy k (s .weighing))
+      → c ≡ goneOutside (s .sending) → t ≡ withSending s c → r ≡ reaction t a → r ≡ changeReactionBy k s
+  unfolding changeReactionBy
+  changed-outside e a c t r = rw (r, t, c, a, sym asked ∙ e)
 
-module _ (p : Profile) (s : State) {k : Scale} (by : k ≡ scaleOf p) {out : Bool} (asked : out ≡ outsideBy k (s .weighing)) {c : Sending} {t : State} {r : Reaction} where
-  pub changed-outside : {a : Answer} → out ≡ true → a ≡ cond (s .sending .outside) Nothing (weighed p (s .weighing))
-      → c ≡ goneOutside (s .sending) → t ≡ withSending s c → r ≡ reaction t a → r ≡ changeReaction p s
-  unfolding changeReaction
-  changed-outside e a c t r = rw (r, t, c, a, outside-scale p (s .weighing) by asked e)
+  module _ (inside : out ≡ false) {due : Bool} (tested : due ≡ isDueBy k (s .weighing) (s .sending)) where
+    pub changed-due : {a : Answer} → due ≡ true → a ≡ weighedBy k (s .weighing)
+        → c ≡ sent (s .weighing) (s .sending) → t ≡ withSending s c → r ≡ reaction t a → r ≡ changeReactionBy k s
+    unfolding changeReactionBy
+    changed-due e a c t r = rw (r, t, c, a, sym asked ∙ inside, sym tested ∙ e)
 
-  module _ (inside : out ≡ false) {due : Bool} (tested : due ≡ isDue p (s .weighing) (s .sending)) where
-    pub changed-due : {a : Answer} → due ≡ true → a ≡ weighed p (s .weighing)
-        → c ≡ sent (s .weighing) (s .sending) → t ≡ withSending s c → r ≡ reaction t a → r ≡ changeReaction p s
-    unfolding changeReaction
-    changed-due e a c t r = rw (r, t, c, a, outside-scale p (s .weighing) by asked inside, sym tested ∙ e)
-
-    pub changed-not : due ≡ false → c ≡ keptInside (s .sending) → t ≡ withSending s c → r ≡ reaction t Nothing → r ≡ changeReaction p s
-    unfolding changeReaction
-    changed-not e c t r = rw (r, t, c, outside-scale p (s .weighing) by asked inside, sym tested ∙ e)
+    pub changed-not : due ≡ false → c ≡ keptInside (s .sending) → t ≡ withSending s c → r ≡ reaction t Nothing → r ≡ changeReactionBy k s
+    unfolding changeReactionBy
+    changed-not e c t r = rw (r, t, c, sym asked ∙ inside, sym tested ∙ e)

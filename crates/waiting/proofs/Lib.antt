@@ -1,3 +1,4 @@
 mod Changes
 pub mod Samples
+pub mod Scales
 mod Waits

@@ -4,6 +4,7 @@ use mathlib.Core.Path.{_≡_, refl, sym, _∙_}
 use Prim.Native.Nat.{_+_}
 use mathlib.Core.Bool.{Bool, true, false, cond, not, _||_, false≢true}
 use lib.Dec.{leb}
+use Rattle.answer.specs.declared.answer.Answer.{Answer}
 use Rattle.answer.specs.declared.answer.Answer.the-variants as answers
 use Rattle.answer.specs.declared.answer.Status.the-variants.{I}
 use Rattle.answer.specs.Lines.{headOf}
@@ -19,11 +20,11 @@ use Rattle.model.specs.declared.state.Waiting.{Waiting}
 use Rattle.weighing.specs.declared.weighing.Measured.{Measured}
 use Rattle.model.specs.Profiles.{scaleOf}
 use Rattle.waiting.specs.Changes.{changeReaction, goneOutside, isDue, keptInside, sent}
-use Rattle.weighing.specs.Weighings.{isOutside, weighed}
-use Rattle.waiting.proofs.Waits.{settled-reaction-scale}
+use Rattle.weighing.specs.Weighings.{isOutside, weighed, weighedBy}
+use Rattle.waiting.proofs.Scales.{change-scale, settled-reaction-scale}
 use Rattle.weight.specs.declared.loads.Load.{Load}
 use Rattle.model.specs.Groups.{chosenReaction, notWaiting, reaction, withSending, withWaiting}
-use Rattle.waiting.specs.Parts.{latestReaction, sendingBy, settledBy, withGroupsOf}
+use Rattle.waiting.specs.Parts.{changeReactionBy, latestReaction, sendingBy, settledBy, withGroupsOf}
 use Rattle.waiting.specs.Waits.{isAwaited, measuredReaction, placeOfPending, sampleReaction, sampledState, settledReaction, unaskedAs, waited}
 use Rattle.model.specs.Sendings.{isOff}
 use Rattle.model.specs.States.{isPending}
@@ -42,6 +43,15 @@ chosen-first : (b : Bool) (x y : Reaction) → b ≡ true → chosenReaction b x
 chosen-first b x y e = rw e
 
 module _ (p : Profile) (s : State) {r : Reaction} where
+  -- it is sent unasked
+  pub unasked-each : {m : Mode} {k : Scale} {a : Answer} → m ≡ EachSample → k ≡ scaleOf p → a ≡ weighedBy k (s .weighing) → r ≡ reaction s a
+      → r ≡ unaskedAs m p s
+  unfolding weighed
+  unasked-each m k a r = rw (r, a, k, m)
+
+  pub unasked-changed : {m : Mode} {k : Scale} → m ≡ OnChange → k ≡ scaleOf p → r ≡ changeReactionBy k s → r ≡ unaskedAs m p s
+  unasked-changed m k r = rw (r, k, m) (change-scale p s)
+
   -- it ends a wait
   pub attended-stable : {k : Scale} {w : Waiting} {t u : State} {c : Sending} {m : Measured}
       → s .weighing .stable ≡ true

@@ -1,7 +1,7 @@
--- What the parts of the code promise each other: the waits of `Waits` by what weighing asks of a profile, and a sample by the groups
--- of the state that it can change.
+-- What the parts of the code promise each other: the waits of `Waits` and the sample of `Changes` by what weighing asks of a profile,
+-- and a sample by the groups of the state that it can change.
 -- Assumes nothing.
-use mathlib.Core.Bool.{_&&_}
+use mathlib.Core.Bool.{Bool, cond, _&&_}
 use Rattle.answer.specs.Commands.{placeT, placeZ}
 use Rattle.answer.specs.declared.answer.Answer.the-variants as answers
 use Rattle.answer.specs.declared.answer.Status.the-variants.{A}
@@ -15,10 +15,11 @@ use Rattle.model.specs.declared.state.State.{State}
 use Rattle.model.specs.declared.weighing.Weighing.{Weighing}
 use Rattle.model.specs.Groups.{withWaiting, withSending, reaction, chosenReaction, notWaiting}
 use Rattle.model.specs.States.{isPending}
-use Rattle.waiting.specs.Changes.{startedBy}
+use Rattle.waiting.specs.Changes.{goneOutside, keptInside, sent, startedBy}
 use Rattle.waiting.specs.Waits.{measuredReaction, settledReaction, unaskedAs, waited}
 use Rattle.weighing.specs.declared.weighing.Measured.{Measured}
-use Rattle.weighing.specs.Weighings.{weighedBy, zeroedBy, taredBy}
+use Rattle.weighing.specs.Weighings.{netOf, outsideBy, weighedBy, zeroedBy, taredBy}
+use Rattle.weight.specs.Changes.{hasMoved}
 
 -- ---- by what weighing asks of a profile
 
@@ -45,6 +46,19 @@ begunBy k s pending =
     chosenReaction (s .weighing .sampled && s .weighing .stable)
     (settledReactionBy k s pending)
     (reaction (withWaiting s (record { pending = pending; unstable = 0 })) answers.Nothing)
+
+abbrev pub isDueBy : Scale → Weighing → Sending → Bool
+isDueBy k w c = cond (c .owed) (w .stable) (hasMoved (k .resolution) (c .threshold .0) (c .last .0) (netOf w))
+
+unfoldable pub changeReactionBy : Scale → State → Reaction
+changeReactionBy k s =
+    let w = s .weighing in
+    let c = s .sending in
+    chosenReaction (outsideBy k w)
+    (reaction (withSending s (goneOutside c)) (cond (c .outside) answers.Nothing (weighedBy k w)))
+    (chosenReaction (isDueBy k w c)
+    (reaction (withSending s (sent w c)) (weighedBy k w))
+    (reaction (withSending s (keptInside c)) answers.Nothing))
 
 -- ---- a sample
 

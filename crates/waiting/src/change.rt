@@ -2,21 +2,20 @@
 ghost use mathlib.Core.Path.{_≡_};
 ghost use mathlib.Core.Bool.{cond};
 ghost use Rattle.waiting.specs.Changes as meaning;
+ghost use Rattle.waiting.specs.Parts as parts;
 ghost use Rattle.weighing.specs.Weighings as weights;
 use answer::Answer;
 use model::Mode;
-use model::Profile;
 use model::Reaction;
 use model::Scale;
 use model::Sending;
 use model::State;
 use model::Weighing;
 use model::answered;
-use model::scale_of;
 use model::with_sending;
 use weighing::is_outside;
 use weighing::net_of;
-use weighing::weighed;
+use weighing::weighed_by;
 use weight::Micrograms;
 use weight::Threshold;
 use weight::has_moved;
@@ -107,10 +106,10 @@ fn sent(weighing: Weighing, sending: Sending) -> Sending
     }
 }
 
-fn is_due(profile: Profile, weighing: Weighing, sending: Sending) -> bool
-    ensures { λ r. ⌜ r ≡ meaning.isDue profile weighing sending ⌝ }
+fn is_due(scale: Scale, weighing: Weighing, sending: Sending) -> bool
+    ensures { λ r. ⌜ r ≡ parts.isDueBy scale weighing sending ⌝ }
 {
-    let resolution = profile.resolution;
+    let resolution = scale.resolution;
     let threshold = sending.threshold;
     let last = sending.last;
     if sending.owed {
@@ -120,27 +119,27 @@ fn is_due(profile: Profile, weighing: Weighing, sending: Sending) -> bool
 }
 
 // A load out of range is told once.
-fn told_once(profile: Profile, weighing: Weighing, told: bool) -> Answer
-    ensures { λ r. ⌜ r ≡ cond told Answer.Nothing (weights.weighed profile weighing) ⌝ }
+fn told_once(scale: Scale, weighing: Weighing, told: bool) -> Answer
+    ensures { λ r. ⌜ r ≡ cond told Answer.Nothing (weights.weighedBy scale weighing) ⌝ }
 {
     if told {
         return Answer::Nothing;
     }
-    weighed(profile, weighing)
+    weighed_by(scale, weighing)
 }
 
 // A sample that finds no command waiting while SR runs; it is the state's latest.
-pub fn changed(profile: Profile, state: State) -> Reaction
-    ensures { λ r. ⌜ r ≡ meaning.changeReaction profile state ⌝ }
+pub fn changed(scale: Scale, state: State) -> Reaction
+    ensures { λ r. ⌜ r ≡ parts.changeReactionBy scale state ⌝ }
 {
     let weighing = state.weighing;
     let sending = state.sending;
-    if is_outside(scale_of(profile), weighing) {
-        let answer = told_once(profile, weighing, sending.outside);
+    if is_outside(scale, weighing) {
+        let answer = told_once(scale, weighing, sending.outside);
         return answered(with_sending(state, gone_outside(sending)), answer);
     }
-    if is_due(profile, weighing, sending) {
-        let answer = weighed(profile, weighing);
+    if is_due(scale, weighing, sending) {
+        let answer = weighed_by(scale, weighing);
         return answered(with_sending(state, sent(weighing, sending)), answer);
     }
     answered(with_sending(state, kept_inside(sending)), Answer::Nothing)

@@ -21,7 +21,7 @@ use model::scale_of;
 use model::with_sending;
 use model::with_waiting;
 use model::with_weighing;
-use weighing::weighed;
+use weighing::weighed_by;
 use weighing::with_sample;
 use weight::Load;
 
@@ -34,8 +34,8 @@ fn unasked(profile: Profile, state: State) -> Reaction
     let weighing = state.weighing;
     match mode {
         Mode::Off => answered(state, Answer::Nothing),
-        Mode::EachSample => answered(state, weighed(profile, weighing)),
-        Mode::OnChange => changed(profile, state),
+        Mode::EachSample => answered(state, weighed_by(scale_of(profile), weighing)),
+        Mode::OnChange => changed(scale_of(profile), state),
     }
 }
 

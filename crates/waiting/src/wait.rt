@@ -20,7 +20,6 @@ use model::State;
 use model::Waiting;
 use model::Weighing;
 use model::answered;
-use model::scale_of;
 use model::with_sending;
 use model::with_waiting;
 use weighing::Measured;
@@ -84,7 +83,7 @@ pub fn sending_of(scale: Scale, pending: Pending, weighing: Weighing, sending: S
 }
 
 // The latest sample is judged if it is stable; otherwise the command waits.
-fn begun_by(scale: Scale, state: State, pending: Pending) -> Reaction
+pub fn begun(scale: Scale, state: State, pending: Pending) -> Reaction
     ensures { λ r. ⌜ r ≡ parts.begunBy scale state pending ⌝ }
 {
     let weighing = state.weighing;
@@ -97,12 +96,6 @@ fn begun_by(scale: Scale, state: State, pending: Pending) -> Reaction
         with_waiting(state, waiting_for(pending, 0)),
         Answer::Nothing,
     )
-}
-
-pub fn begun(profile: Profile, state: State, pending: Pending) -> Reaction
-    ensures { λ r. ⌜ r ≡ meaning.begun profile state pending ⌝ }
-{
-    begun_by(scale_of(profile), state, pending)
 }
 
 // One more unstable sample while a command waits.

@@ -17,7 +17,7 @@ use Rattle.model.specs.Profiles.{scaleOf}
 use Rattle.model.specs.declared.weighing.Weighing.{Weighing}
 use Rattle.weighing.specs.declared.weighing.Measured.{Measured}
 use Rattle.answer.specs.Lines.{headOf}
-use Rattle.weighing.specs.Weighings.{grossOf, netOf, stability, numberIn, weighed, weighedBy, withTare, withZero, zeroed, zeroedBy, tared, taredBy, tareAnswer}
+use Rattle.weighing.specs.Weighings.{grossOf, netOf, stability, numberIn, weighedBy, withTare, withZero, zeroedBy, taredBy, tareAnswer}
 
 module _ (s : Scale) (w : Weighing) {gross : ℤ} (g : gross ≡ grossOf w) where
   pub weighed-over : {over : Bool} {a : Answer} → over ≡ ltZ (pos (s .capacity)) gross → over ≡ true → a ≡ Plain (headOf placeS Over) → a ≡ weighedBy s w
@@ -93,19 +93,6 @@ module _ (s : Scale) (w : Weighing) {load : ℤ} (g : load ≡ w .load .0) where
   zeroed-load c granted e t f u r v = rw (v, r, ← g, ← e, t, ← f, u)
 
 -- ---- by the scale of a profile
-
-module _ (p : Profile) (w : Weighing) {s : Scale} (by : s ≡ scaleOf p) where
-  pub weighed-scale : {a : Answer} → a ≡ weighedBy s w → a ≡ weighed p w
-  unfolding weighed
-  weighed-scale a = rw (a, by)
-
-  pub zeroed-scale : {m : Measured} (c : ℕ) (granted : Status) → m ≡ zeroedBy s w c granted → m ≡ zeroed p w c granted
-  unfolding zeroed
-  zeroed-scale c granted m = rw (m, by)
-
-  pub tared-scale : {m : Measured} (c : ℕ) → m ≡ taredBy s w c → m ≡ tared p w c
-  unfolding tared
-  tared-scale c m = rw (m, by)
 
 pub tare-scale : (p : Profile) (tare : ℕ) {s : Scale} {net : ℤ} {n : Number} {a : Answer} → s ≡ scaleOf p → net ≡ pos tare
     → n ≡ numberIn (s .resolution) net → a ≡ Weight (headOf placeTA A) n → a ≡ tareAnswer p tare

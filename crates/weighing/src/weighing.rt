@@ -111,12 +111,6 @@ pub fn weighed_by(scale: Scale, weighing: Weighing) -> Answer
     weight_answer(S, stability(weighing), number_of(scale, net_of(weighing)))
 }
 
-pub fn weighed(profile: Profile, weighing: Weighing) -> Answer
-    ensures { λ r. ⌜ r ≡ meaning.weighed profile weighing ⌝ }
-{
-    weighed_by(scale_of(profile), weighing)
-}
-
 // Zero becomes the load, and tare becomes 0.
 fn with_zero(weighing: Weighing) -> Weighing
     ensures { λ r. ⌜ r ≡ meaning.withZero weighing ⌝ }
@@ -177,12 +171,6 @@ pub fn zeroed_by(scale: Scale, weighing: Weighing, command: u8, granted: Status)
     }
 }
 
-pub fn zeroed(profile: Profile, weighing: Weighing, command: u8, granted: Status) -> Measured
-    ensures { λ r. ⌜ r ≡ meaning.zeroed profile weighing command granted ⌝ }
-{
-    zeroed_by(scale_of(profile), weighing, command, granted)
-}
-
 // T and TI.
 pub fn tared_by(scale: Scale, weighing: Weighing, command: u8) -> Measured
     ensures { λ r. ⌜ r ≡ meaning.taredBy scale weighing command ⌝ }
@@ -201,12 +189,6 @@ pub fn tared_by(scale: Scale, weighing: Weighing, command: u8) -> Measured
         weighing: with_tare(weighing, tare_of(load, zero)),
         answer,
     }
-}
-
-pub fn tared(profile: Profile, weighing: Weighing, command: u8) -> Measured
-    ensures { λ r. ⌜ r ≡ meaning.tared profile weighing command ⌝ }
-{
-    tared_by(scale_of(profile), weighing, command)
 }
 
 // TA: the tare as a weight.

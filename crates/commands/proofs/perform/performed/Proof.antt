@@ -1,6 +1,6 @@
 use borrow.Author.Tests.{leb-true}
 use borrow.Author.Needs.{needs}
-use Rattle.commands.specs.Reactions.{changing}
+use Rattle.commands.proofs.OwnRule.{changing-begun}
 use Rattle.commands.proofs.perform.performed.Statement.{statement}
 use Rattle.commands.proofs.perform.performed.Tie as tie
 
@@ -52,6 +52,9 @@ preset-requires c κs = search needs
 enum-known-verdict-7 : tie.Need-enum-known-verdict-7
 enum-known-verdict-7 c = search needs
 
+scale-of-requires : tie.Need-scale-of-requires
+scale-of-requires c κs = search needs
+
 with-change-requires : tie.Need-with-change-requires
 with-change-requires c κs = search needs
 
@@ -87,8 +90,10 @@ returns-7 : tie.Need-returns-7
 returns-7 c = rw (c .preset .ensures, c .before .before .verdict6 .given .1)
 
 returns-8 : tie.Need-returns-8
-unfolding changing
-returns-8 c = rw (c .begun .ensures, c .before .with-change .ensures, c .before .before .before .verdict7 .given .1)
+returns-8 c =
+    let called = c .before .before in
+    rw (called .before .before .verdict7 .given .1)
+    (changing-begun _ _ _ (called .scale-of .ensures) (c .before .with-change .ensures) (c .begun .ensures))
 
 returns-9 : tie.Need-returns-9
 returns-9 c = rw (c .show-text .ensures, c .before .before .verdict8 .given .1)
@@ -113,6 +118,7 @@ performed-spec =
     enum-known-verdict-6
     preset-requires
     enum-known-verdict-7
+    scale-of-requires
     with-change-requires
     begun-requires
     enum-known-verdict-8

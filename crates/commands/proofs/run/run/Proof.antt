@@ -39,6 +39,9 @@ run-showing-requires c κs = search needs
 enum-told-6 : tie.Need-enum-told-6
 enum-told-6 c = search needs
 
+scale-of-requires : tie.Need-scale-of-requires
+scale-of-requires c κs = search needs
+
 with-change-requires : tie.Need-with-change-requires
 with-change-requires c κs = search needs
 
@@ -97,6 +100,7 @@ run-spec =
     enum-told-5
     run-showing-requires
     enum-told-6
+    scale-of-requires
     with-change-requires
     begun-requires
     enum-told-7

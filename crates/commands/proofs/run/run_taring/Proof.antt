@@ -3,14 +3,20 @@ use Rattle.commands.proofs.OwnRule.{taring-begun, taring-at-once, tarin
 use Rattle.commands.proofs.run.run_taring.Statement.{statement}
 use Rattle.commands.proofs.run.run_taring.Tie as tie
 
+scale-of-requires : tie.Need-scale-of-requires
+scale-of-requires c κs = search needs
+
 begun-requires : tie.Need-begun-requires
 begun-requires c κs = search needs
 
 returns : tie.Need-returns
 returns c = search (needs, taring-begun)
 
-tared-requires : tie.Need-tared-requires
-tared-requires c κs = search needs
+scale-of-requires-2 : tie.Need-scale-of-requires-2
+scale-of-requires-2 c κs = search needs
+
+tared-by-requires : tie.Need-tared-by-requires
+tared-by-requires c κs = search needs
 
 measured-reaction-requires : tie.Need-measured-reaction-requires
 measured-reaction-requires c κs = search needs
@@ -52,9 +58,11 @@ pub run-taring-spec : {M : Type 1} → statement M
 run-taring-spec =
     tie.close
     (tie.spec
+    scale-of-requires
     begun-requires
     returns
-    tared-requires
+    scale-of-requires-2
+    tared-by-requires
     measured-reaction-requires
     returns-2
     with-tare-requires

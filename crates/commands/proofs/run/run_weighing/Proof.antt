@@ -6,6 +6,9 @@ use Rattle.commands.proofs.run.run_weighing.Tie as tie
 may-wait-requires : tie.Need-may-wait-requires
 may-wait-requires c κs = search needs
 
+scale-of-requires : tie.Need-scale-of-requires
+scale-of-requires c κs = search needs
+
 sending-as-requires : tie.Need-sending-as-requires
 sending-as-requires c κs = search needs
 
@@ -21,8 +24,11 @@ mode-after-requires c κs = search needs
 sending-as-requires-2 : tie.Need-sending-as-requires-2
 sending-as-requires-2 c κs = search needs
 
-weighed-requires : tie.Need-weighed-requires
-weighed-requires c κs = search needs
+scale-of-requires-2 : tie.Need-scale-of-requires-2
+scale-of-requires-2 c κs = search needs
+
+weighed-by-requires : tie.Need-weighed-by-requires
+weighed-by-requires c κs = search needs
 
 answered-requires : tie.Need-answered-requires
 answered-requires c κs = search needs
@@ -35,11 +41,13 @@ run-weighing-spec =
     tie.close
     (tie.spec
     may-wait-requires
+    scale-of-requires
     sending-as-requires
     begun-requires
     returns
     mode-after-requires
     sending-as-requires-2
-    weighed-requires
+    scale-of-requires-2
+    weighed-by-requires
     answered-requires
     returns-2)

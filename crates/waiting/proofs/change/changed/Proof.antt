@@ -3,9 +3,6 @@ use Rattle.waiting.proofs.Changes.{changed-outside, changed-due, change
 use Rattle.waiting.proofs.change.changed.Statement.{statement}
 use Rattle.waiting.proofs.change.changed.Tie as tie
 
-scale-of-requires : tie.Need-scale-of-requires
-scale-of-requires c κs = search needs
-
 is-outside-requires : tie.Need-is-outside-requires
 is-outside-requires c κs = search needs
 
@@ -27,8 +24,8 @@ returns c = search (needs, changed-outside)
 is-due-requires : tie.Need-is-due-requires
 is-due-requires c κs = search needs
 
-weighed-requires : tie.Need-weighed-requires
-weighed-requires c κs = search needs
+weighed-by-requires : tie.Need-weighed-by-requires
+weighed-by-requires c κs = search needs
 
 sent-requires : tie.Need-sent-requires
 sent-requires c κs = search needs
@@ -58,7 +55,6 @@ pub changed-spec : {M : Type 1} → statement M
 changed-spec =
     tie.close
     (tie.spec
-    scale-of-requires
     is-outside-requires
     told-once-requires
     gone-outside-requires
@@ -66,7 +62,7 @@ changed-spec =
     answered-requires
     returns
     is-due-requires
-    weighed-requires
+    weighed-by-requires
     sent-requires
     with-sending-requires-2
     answered-requires-2

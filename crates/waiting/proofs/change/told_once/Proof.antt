@@ -5,11 +5,11 @@ use Rattle.waiting.proofs.change.told_once.Tie as tie
 returns : tie.Need-returns
 returns c = rw (c .if1 .taken)
 
-weighed-requires : tie.Need-weighed-requires
-weighed-requires c κs = search needs
+weighed-by-requires : tie.Need-weighed-by-requires
+weighed-by-requires c κs = search needs
 
 returns-2 : tie.Need-returns-2
-returns-2 c = rw (c .weighed .ensures, c .before .if1 .left)
+returns-2 c = rw (c .weighed-by .ensures, c .before .if1 .left)
 
 pub told-once-spec : {M : Type 1} → statement M
-told-once-spec = tie.close (tie.spec returns weighed-requires returns-2)
+told-once-spec = tie.close (tie.spec returns weighed-by-requires returns-2)

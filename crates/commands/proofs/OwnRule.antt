@@ -16,7 +16,6 @@ use Rattle.model.specs.declared.profile.Scale.{Scale}
 use Rattle.model.specs.declared.react.Reaction.{Reaction}
 use Rattle.model.specs.declared.sending.Mode.{Mode}
 use Rattle.model.specs.declared.sending.Mode.the-variants.{Off, EachSample}
-use Rattle.model.specs.declared.sending.Sending.{Sending}
 use Rattle.model.specs.declared.state.Pending.the-variants.{Weigh, Zero, Tare, Change}
 use Rattle.model.specs.declared.state.State.{State}
 use Rattle.weighing.specs.declared.weighing.Measured.{Measured}

@@ -5,11 +5,10 @@ use mathlib.Core.Bool.{Bool, true, false, cond, not, _&&_, _||_, and-false, or-f
 use mathlib.Core.List.{List, _++_, map}
 use Prim.Native.Nat.{ℕ}
 use borrow.Author.Tests.{eqb-true}
-use lib.Dec.{leb}
 use lib.IntN.{pos}
 use Rattle.answer.specs.declared.answer.Answer.the-variants as answers
-use Rattle.answer.specs.declared.answer.Status.the-variants.{A, I, L}
-use Rattle.answer.specs.Commands.{nameOf, isSI, isSIR, placeS, placeSI, placeSIR, placeSR, placeD, placeDW, placeT, placeTAC, placeTI, placeZ, placeZI, placeI2, placeI4, placeI5}
+use Rattle.answer.specs.declared.answer.Status.the-variants.{A}
+use Rattle.answer.specs.Commands.{nameOf, isSI, isSIR, placeS, placeSI, placeSIR, placeSR, placeT, placeTAC, placeTI, placeZ, placeZI, placeI4}
 use Rattle.answer.specs.Lines.{headOf}
 use Rattle.commands.specs.Reactions.{changing, identificationOf, performed, resetState, run, sendingAs, showingWeight, situationOf}
 use Rattle.device.specs.Calls.{answerBytes}
@@ -40,10 +39,9 @@ use Rattle.weight.specs.declared.changes.Threshold.{Threshold}
 use Rattle.history.specs.OnChange.{Sends, off, always, asked, running, netIn, nameIn, isCarriedOut, thresholdIn, startedBy, sendsAfterLine}
 use Rattle.history.specs.Tally.{Tally, isResetLine}
 use Rattle.history.specs.Waits.{isEmpty}
-use Rattle.history.proofs.AnswerKinds.{error-silent, list-silent, versions-silent, shown-silent, weight-shown-silent, cleared-clears, unready-silent, wrong-silent, text-silent, told-tells}
 use Rattle.history.proofs.Following.{Follows}
 use Rattle.history.proofs.SentAnswers.{silent-empty}
-use Rattle.history.proofs.SentHeads.{net-in, heads, uncarried, zeroed-uncarried, tared-uncarried}
+use Rattle.history.proofs.SentHeads.{net-in, heads, error-uncarried, list-uncarried, versions-uncarried, shown-uncarried, weight-shown-uncarried, cleared-uncarried, told-uncarried, unready-uncarried, wrong-uncarried, text-uncarried, zeroed-uncarried, tared-uncarried}
 use Rattle.history.proofs.Verdicts.{verdict-says}
 use Rattle.history.proofs.Ways.{Ruled, by-choice, run-cases}
 
@@ -238,25 +236,25 @@ module _
     run-sent ruled =
         let keep = kept-sent p s f other x old in
         run-cases (SentOf p s f other x old) p s c ruled
-        (keep (reaction s answers.CommandList) refl refl (uncarried _ (list-silent p) (silent-empty p answers.CommandList)))
-        (keep (reaction s answers.Versions) refl refl (uncarried _ (versions-silent p) (silent-empty p answers.Versions)))
+        (keep (reaction s answers.CommandList) refl refl (list-uncarried p))
+        (keep (reaction s answers.Versions) refl refl (versions-uncarried p))
         (λ has.
         keep (reaction s (answers.Text c)) refl refl
-        (uncarried _ (text-silent p c (both-right (leb placeI2 c) (leb c placeI5) has)) (silent-empty p (answers.Text c))))
+        (text-uncarried p c))
         (λ is. begun-ended p s f other x old free (named placeS is))
         (λ needs now. now-by (isSIR c) refl now)
         (λ is. begun-kept p s f other x old free Zero (ascii "Z") refl refl refl (named placeZ is) refl refl refl refl)
         (λ needs.
         keep (measuredReaction s (zeroed p (s .weighing) placeZI (stability (s .weighing)))) refl refl (zeroed-uncarried p (s .weighing)))
-        (keep (showingWeight s) refl refl (uncarried _ (weight-shown-silent p) (silent-empty p (answers.Plain (headOf placeDW A)))))
+        (keep (showingWeight s) refl refl (weight-shown-uncarried p))
         (λ is. change-sent p s f other x old free 0 (named placeSR is) (alone is))
         (λ is. begun-kept p s f other x old free Tare (ascii "T") refl refl refl (named placeT is) refl refl refl refl)
         (λ needs. keep (measuredReaction s (tared p (s .weighing) placeTI)) refl refl (tared-uncarried p (s .weighing)))
         (keep (reaction (withWeighing s (withTare (s .weighing) 0)) (answers.Plain (headOf placeTAC A))) refl refl
-        (uncarried _ (cleared-clears p) (silent-empty p (answers.Plain (headOf placeTAC A)))))
+        (cleared-uncarried p))
         (λ is.
         keep (reaction s (tareAnswer p (s .weighing .tare .0))) refl refl
-        (uncarried _ (told-tells p (numberOf p (pos (s .weighing .tare .0)))) (silent-empty p (tareAnswer p (s .weighing .tare .0)))))
+        (told-uncarried p (numberOf p (pos (s .weighing .tare .0)))))
 
 -- SR number unit
 spaced-name : (q : List ℕ) → beforeSpace (ascii "SR " ++ q) ≡ ascii "SR"
@@ -277,24 +275,24 @@ module _ (p : Profile) (s : State) (f : List Marked) (x : Sends) (old : Follow s
   unfolding resetState
   performed-sent l (Erroneous e) h =
       kept-sent p s f (verdict-says (situationOf p s) f (Erroneous e) h) x old (performed p s l (Erroneous e)) refl refl
-      (uncarried _ (error-silent p e) (silent-empty p (answers.ErrorLine e)))
+      (error-uncarried p e)
   performed-sent l Reset h =
       λ t g. record { sends = line-reset p t f (answerBytes p (answers.Text placeI4)) x (verdict-says (situationOf p s) f Reset h); idle = λ i. refl }
   performed-sent l (Busy c) h =
       kept-sent p s f (verdict-says (situationOf p s) f (Busy c) h) x old (performed p s l (Busy c)) refl refl
-      (uncarried _ (unready-silent p (identificationOf c)) (silent-empty p (answers.Plain (headOf (identificationOf c) I))))
+      (unready-uncarried p (identificationOf c))
   performed-sent l (Wrong c) h =
       kept-sent p s f (verdict-says (situationOf p s) f (Wrong c) h) x old (performed p s l (Wrong c)) refl refl
-      (uncarried _ (wrong-silent p (identificationOf c)) (silent-empty p (answers.Plain (headOf (identificationOf c) L))))
+      (wrong-uncarried p (identificationOf c))
   performed-sent l (NoSample c) h =
       kept-sent p s f (verdict-says (situationOf p s) f (NoSample c) h) x old (performed p s l (NoSample c)) refl refl
-      (uncarried _ (unready-silent p (identificationOf c)) (silent-empty p (answers.Plain (headOf (identificationOf c) I))))
+      (unready-uncarried p (identificationOf c))
   performed-sent l (Run c) h =
       let says = verdict-says (situationOf p s) f (Run c) h in
       run-sent p s f (says .other) x old (run-line (situationOf p s) f h .free) c (says .text) (says .may .ruled)
   performed-sent l (Preset m) h =
       kept-sent p s f (verdict-says (situationOf p s) f (Preset m) h .other) x old (performed p s l (Preset m)) refl refl
-      (uncarried _ (told-tells p (numberOf p (pos (m .0)))) (silent-empty p (tareAnswer p (m .0))))
+      (told-uncarried p (numberOf p (pos (m .0))))
   performed-sent l (verdicts.Change n) h =
       let line = change-line (situationOf p s) f h in
       change-sent p s f (verdict-says (situationOf p s) f (verdicts.Change n) h) x old (line .free) (n .0)
@@ -302,4 +300,4 @@ module _ (p : Profile) (s : State) (f : List Marked) (x : Sends) (old : Follow s
       (typed-threshold p s f n line)
   performed-sent l (Show n) h =
       kept-sent p s f (verdict-says (situationOf p s) f (Show n) h) x old (performed p s l (Show n)) refl refl
-      (uncarried _ (shown-silent p) (silent-empty p (answers.Plain (headOf placeD A))))
+      (shown-uncarried p)

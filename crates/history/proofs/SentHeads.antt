@@ -1,25 +1,31 @@
 -- What the follower of SR reads in the head of an answer.
 -- Assumes nothing.
 use mathlib.Core.Path.{_≡_, refl, sym, ap, ap₂}
-use mathlib.Core.Bool.{Bool, true, false, cond, not, _&&_, _||_, true≢false}
-use mathlib.Core.List.{List}
+use mathlib.Core.Bool.{Bool, true, false, cond, not, _&&_}
+use mathlib.Core.List.{List, _++_}
 use Prim.Native.Nat.{ℕ}
+use borrow.Author.Tests.{not-true}
 use lib.IntN.{pos, negℤ, _-ℤ_}
 use lib.Signed.{ltZ}
 use Rattle.answer.specs.declared.answer.Answer.{Answer}
-use Rattle.answer.specs.declared.answer.Answer.the-variants.{Plain, Weight}
-use Rattle.answer.specs.declared.answer.Status.the-variants.{S, D}
-use Rattle.answer.specs.Commands.{placeS, placeTI, placeZI}
-use Rattle.answer.specs.Lines.{headText, lineOf, headOf}
+use Rattle.answer.specs.declared.answer.Answer.the-variants.{Plain, Weight, ErrorLine, Text, CommandList, Versions}
+use Rattle.answer.specs.declared.answer.Error.{Error}
+use Rattle.answer.specs.declared.answer.Error.the-variants.{Syntax, Transmission, Logical}
+use Rattle.answer.specs.declared.answer.Number.{Number}
+use Rattle.answer.specs.declared.answer.Status.{Status}
+use Rattle.answer.specs.declared.answer.Status.the-variants.{A, S, D, I, L}
+use Rattle.answer.specs.Commands.{names, placeD, placeDW, placeS, placeTA, placeTAC, placeTI, placeZI}
+use Rattle.answer.proofs.Names.{at-name}
+use Rattle.answer.specs.Lines.{lineEnd, quoted, statusText, headText, listedLine, listedFrom, lineOf, headOf}
 use Rattle.device.specs.Calls.{answerBytes}
 use Rattle.model.specs.declared.profile.Profile.{Profile}
+use Rattle.model.specs.Profiles.{informationText}
 use Rattle.model.specs.declared.weighing.Weighing.{Weighing}
 use Rattle.text.specs.Ascii.{ascii}
 use Rattle.weighing.specs.Weighings.{grossOf, netOf, numberOf, inLimits, isOutside, stability, weighed, zeroed, tared}
 use Rattle.history.specs.OnChange.{grossIn, netIn, isCarriedOut, isSent}
 use Rattle.history.specs.Tally.{Tally, begins}
 use Rattle.history.specs.Waits.{isEmpty}
-use Rattle.history.proofs.AnswerKinds.{Tests}
 use Rattle.history.proofs.Following.{Follows, gross-is}
 use Rattle.history.proofs.SentAnswers.{in-limits}
 
@@ -60,44 +66,85 @@ module _ (p : Profile) (w : Weighing) where
 
 -- ---- the other answers
 
--- none of the ten tests of a limit, so neither of the first two
-first-two : (a b c d e f g h i j : Bool) → (a || b || c || d || e || f || g || h || i || j) ≡ false → (a ≡ false) × (b ≡ false)
-first-two true b c d e f g h i j x = absurd (true≢false x)
-first-two false true c d e f g h i j x = absurd (true≢false x)
-first-two false false c d e f g h i j x = (refl, refl)
+-- an answer that no line of S, SI, SIR or SR has when it is carried out
+abbrev pub Uncarried : Profile → Answer → Type 0
+Uncarried p a = isCarriedOut (answerBytes p a) ≡ false
 
--- an answer that is sent, no net and no limit
-pub uncarried : {zero tare clear told : Bool} (l : List ℕ) → Tests zero tare clear told false false l → isEmpty l ≡ false → isCarriedOut l ≡ false
-uncarried l k full =
-    let two = first-two
-    (begins (ascii "S +") l) (begins (ascii "S -") l) (begins (ascii "Z +") l) (begins (ascii "Z -") l) (begins (ascii "ZI +") l) (begins (ascii "ZI -") l)
-    (begins (ascii "T +") l) (begins (ascii "T -") l) (begins (ascii "TI +") l) (begins (ascii "TI -") l) (k .limit-is) in
-    rw (full, k .net-is, two .0, two .1)
+-- a name with a status, and one with a text
+abbrev isOther : Status → List ℕ → Bool
+isOther s n = not (isCarriedOut (n ++ ascii " " ++ statusText s ++ lineEnd))
+
+abbrev isInformation : List ℕ → List ℕ → Bool
+isInformation t n = not (isCarriedOut (n ++ ascii " A " ++ quoted t ++ lineEnd))
+
+module _ (p : Profile) where
+  pub error-uncarried : (e : Error) → Uncarried p (ErrorLine e)
+  unfolding answerBytes lineOf
+  error-uncarried Syntax = refl
+  error-uncarried Transmission = refl
+  error-uncarried Logical = refl
+
+  -- I0, I1
+  pub list-uncarried : Uncarried p CommandList
+  unfolding answerBytes lineOf listedFrom listedLine
+  list-uncarried = refl
+
+  pub versions-uncarried : Uncarried p Versions
+  unfolding answerBytes lineOf
+  versions-uncarried = refl
+
+  -- D A, DW A, TAC A, TA A
+  pub shown-uncarried : Uncarried p (Plain (headOf placeD A))
+  unfolding answerBytes lineOf headText
+  shown-uncarried = refl
+
+  pub weight-shown-uncarried : Uncarried p (Plain (headOf placeDW A))
+  unfolding answerBytes lineOf headText
+  weight-shown-uncarried = refl
+
+  pub cleared-uncarried : Uncarried p (Plain (headOf placeTAC A))
+  unfolding answerBytes lineOf headText
+  cleared-uncarried = refl
+
+  pub told-uncarried : (n : Number) → Uncarried p (Weight (headOf placeTA A) n)
+  unfolding answerBytes lineOf headText
+  told-uncarried n = refl
+
+  -- I and L, with any name
+  pub unready-uncarried : (c : ℕ) → Uncarried p (Plain (headOf c I))
+  unfolding answerBytes lineOf headText
+  unready-uncarried c = not-true _ (at-name (isOther I) names c refl)
+
+  pub wrong-uncarried : (c : ℕ) → Uncarried p (Plain (headOf c L))
+  unfolding answerBytes lineOf headText
+  wrong-uncarried c = not-true _ (at-name (isOther L) names c refl)
+
+  -- I2 to I5
+  pub text-uncarried : (c : ℕ) → Uncarried p (Text c)
+  unfolding answerBytes lineOf
+  text-uncarried c = not-true _ (at-name (isInformation (informationText p c)) names c refl)
 
 module _ (p : Profile) (w : Weighing) where
-  abbrev Uncarried : Answer → Type 0
-  Uncarried a = isCarriedOut (answerBytes p a) ≡ false
-
-  zero-by : (stable : Bool) → Uncarried (Plain (headOf placeZI (cond stable S D)))
+  zero-by : (stable : Bool) → Uncarried p (Plain (headOf placeZI (cond stable S D)))
   unfolding answerBytes lineOf headText
   zero-by true = refl
   zero-by false = refl
 
   -- ZI
-  pub zeroed-uncarried : Uncarried (zeroed p w placeZI (stability w) .answer)
+  pub zeroed-uncarried : Uncarried p (zeroed p w placeZI (stability w) .answer)
   unfolding zeroed answerBytes lineOf headText
   zeroed-uncarried =
-      in-limits Uncarried placeZI (ltZ (pos (p .zeroing)) (w .load .0)) (ltZ (w .load .0) (negℤ (pos (p .zeroing)))) (Plain (headOf placeZI (stability w)))
+      in-limits (Uncarried p) placeZI (ltZ (pos (p .zeroing)) (w .load .0)) (ltZ (w .load .0) (negℤ (pos (p .zeroing)))) (Plain (headOf placeZI (stability w)))
       refl refl (λ o u. zero-by (w .stable))
 
-  tare-by : (stable : Bool) → Uncarried (Weight (headOf placeTI (cond stable S D)) (numberOf p (grossOf w)))
+  tare-by : (stable : Bool) → Uncarried p (Weight (headOf placeTI (cond stable S D)) (numberOf p (grossOf w)))
   unfolding answerBytes lineOf headText
   tare-by true = refl
   tare-by false = refl
 
   -- TI
-  pub tared-uncarried : Uncarried (tared p w placeTI .answer)
+  pub tared-uncarried : Uncarried p (tared p w placeTI .answer)
   unfolding tared answerBytes lineOf headText
   tared-uncarried =
-      in-limits Uncarried placeTI (ltZ (pos (p .capacity)) (grossOf w)) (ltZ (grossOf w) (pos 0)) (Weight (headOf placeTI (stability w)) (numberOf p (grossOf w)))
+      in-limits (Uncarried p) placeTI (ltZ (pos (p .capacity)) (grossOf w)) (ltZ (grossOf w) (pos 0)) (Weight (headOf placeTI (stability w)) (numberOf p (grossOf w)))
       refl refl (λ o u. tare-by (w .stable))

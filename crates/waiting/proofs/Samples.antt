@@ -94,12 +94,7 @@ settled-keeps p s pending = record { line = refl; display = refl }
 waited-keeps : (p : Profile) (s : State) → Keeps s (waited p s)
 unfolding waited
 waited-keeps p s =
-    let n = s .waiting .unstable + 1 in
-    either-keeps s (leb (p .timeout) n)
-    (reaction (withWaiting s notWaiting) (answers.Plain (headOf (placeOfPending (s .waiting .pending)) I)))
-    (reaction (withWaiting s (record { pending = s .waiting .pending; unstable = n })) answers.Nothing)
-    (record { line = refl; display = refl })
-    (record { line = refl; display = refl })
+    either-keeps s (leb (p .timeout) (s .waiting .unstable + 1)) _ _ (record { line = refl; display = refl }) (record { line = refl; display = refl })
 
 changed-keeps : (p : Profile) (s : State) → Keeps s (changeReaction p s)
 unfolding changeReaction

@@ -6,8 +6,6 @@ use mathlib.Core.Bool.{Bool, true, false, cond, not, _||_, false≢true}
 use lib.Dec.{leb}
 use Rattle.answer.specs.declared.answer.Answer.{Answer}
 use Rattle.answer.specs.declared.answer.Answer.the-variants as answers
-use Rattle.answer.specs.declared.answer.Status.the-variants.{I}
-use Rattle.answer.specs.Lines.{headOf}
 use Rattle.model.specs.declared.profile.Profile.{Profile}
 use Rattle.model.specs.declared.react.Reaction.{Reaction}
 use Rattle.model.specs.declared.sending.Mode.{Mode}
@@ -25,7 +23,7 @@ use Rattle.waiting.proofs.Scales.{change-scale, settled-reaction-scale}
 use Rattle.weight.specs.declared.loads.Load.{Load}
 use Rattle.model.specs.Groups.{chosenReaction, notWaiting, reaction, withSending, withWaiting}
 use Rattle.waiting.specs.Parts.{changeReactionBy, latestReaction, sendingBy, settledBy, withGroupsOf}
-use Rattle.waiting.specs.Waits.{isAwaited, measuredReaction, placeOfPending, sampleReaction, sampledState, settledReaction, unaskedAs, waited}
+use Rattle.waiting.specs.Waits.{isAwaited, measuredReaction, sampleReaction, sampledState, settledReaction, unaskedAs, waited}
 use Rattle.model.specs.Sendings.{isOff}
 use Rattle.model.specs.States.{isPending}
 

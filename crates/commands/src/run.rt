@@ -76,7 +76,7 @@ fn mode_after(command: u8) -> Mode
     Mode::EachSample
 }
 
-pub fn sending_as(state: State, mode: Mode) -> State
+fn sending_as(state: State, mode: Mode) -> State
     ensures { λ r. ⌜ r ≡ meaning.sendingAs state mode ⌝ }
 {
     let sending = state.sending;

@@ -110,7 +110,7 @@ pub fn take_sample(
         return refused(Refusal::State, state);
     }
     if is_awaited(state) {
-        // As above.
+        // Copied here, the profile is not copied for a sample that nothing awaits.
         let kept = profile;
         let reaction = sample_reaction(profile, state, load, stable);
         let answer = reaction.answer;

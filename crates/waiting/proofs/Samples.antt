@@ -22,8 +22,8 @@ use Rattle.weighing.specs.Weighings.{isOutside, weighed, weighedBy}
 use Rattle.waiting.proofs.Scales.{change-scale, settled-reaction-scale}
 use Rattle.weight.specs.declared.loads.Load.{Load}
 use Rattle.model.specs.Groups.{chosenReaction, notWaiting, reaction, withSending, withWaiting}
-use Rattle.waiting.specs.Parts.{changeReactionBy, latestReaction, sendingBy, settledBy, withGroupsOf}
-use Rattle.waiting.specs.Waits.{isAwaited, measuredReaction, sampleReaction, sampledState, settledReaction, unaskedAs, waited}
+use Rattle.waiting.specs.Parts.{changeReactionBy, latestReaction, settledBy, withGroupsOf}
+use Rattle.waiting.specs.Waits.{isAwaited, measuredReaction, sampleReaction, sampledState, sendingBy, settledReaction, unaskedAs, waited}
 use Rattle.model.specs.Sendings.{isOff}
 use Rattle.model.specs.States.{isPending}
 

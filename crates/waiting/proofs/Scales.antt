@@ -4,15 +4,14 @@ use mathlib.Core.Path.{_≡_, refl}
 use Rattle.model.specs.declared.profile.Profile.{Profile}
 use Rattle.model.specs.declared.profile.Scale.{Scale}
 use Rattle.model.specs.declared.react.Reaction.{Reaction}
-use Rattle.model.specs.declared.sending.Sending.{Sending}
 use Rattle.model.specs.declared.state.Pending.{Pending}
 use Rattle.model.specs.declared.state.Pending.the-variants.{Nothing, Weigh, Zero, Tare, Change}
 use Rattle.model.specs.declared.state.State.{State}
 use Rattle.model.specs.declared.weighing.Weighing.{Weighing}
 use Rattle.model.specs.Profiles.{scaleOf}
 use Rattle.waiting.specs.Changes.{changeReaction}
-use Rattle.waiting.specs.Parts.{begunBy, changeReactionBy, sendingBy, settledBy, settledReactionBy}
-use Rattle.waiting.specs.Waits.{begun, sendingOf, settled, settledReaction}
+use Rattle.waiting.specs.Parts.{begunBy, changeReactionBy, settledBy, settledReactionBy}
+use Rattle.waiting.specs.Waits.{begun, settled, settledReaction}
 use Rattle.weighing.specs.Weighings.{tared, weighed, zeroed}
 
 settled-scale : (p : Profile) (pending : Pending) (w : Weighing) → settledBy (scaleOf p) pending w ≡ settled p pending w
@@ -23,16 +22,9 @@ settled-scale p Zero w = refl
 settled-scale p Tare w = refl
 settled-scale p Change w = refl
 
-sending-scale : (p : Profile) (pending : Pending) (w : Weighing) (c : Sending) → sendingBy (scaleOf p) pending w c ≡ sendingOf p pending w c
-sending-scale p Nothing w c = refl
-sending-scale p Weigh w c = refl
-sending-scale p Zero w c = refl
-sending-scale p Tare w c = refl
-sending-scale p Change w c = refl
-
 pub settled-reaction-scale : (p : Profile) (s : State) (pending : Pending) → settledReactionBy (scaleOf p) s pending ≡ settledReaction p s pending
 unfolding settledReaction
-settled-reaction-scale p s pending = rw (settled-scale p pending (s .weighing), sending-scale p pending (s .weighing) (s .sending))
+settled-reaction-scale p s pending = rw (settled-scale p pending (s .weighing))
 
 pub begun-scale : (p : Profile) (s : State) (pending : Pending) {k : Scale} {r : Reaction} → k ≡ scaleOf p → r ≡ begunBy k s pending → r ≡ begun p s pending
 unfolding begun begunBy

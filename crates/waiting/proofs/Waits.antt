@@ -10,8 +10,8 @@ use Rattle.answer.specs.declared.answer.Status.the-variants.{I}
 use Rattle.model.specs.declared.react.Reaction.{Reaction}
 use Rattle.weighing.specs.declared.weighing.Measured.{Measured}
 use Rattle.model.specs.Groups.{notWaiting, reaction, withSending, withWaiting}
-use Rattle.waiting.specs.Parts.{begunBy, sendingBy, settledBy}
-use Rattle.waiting.specs.Waits.{measuredReaction, placeOfPending, waited}
+use Rattle.waiting.specs.Parts.{begunBy, settledBy}
+use Rattle.waiting.specs.Waits.{measuredReaction, placeOfPending, sendingBy, waited}
 use Rattle.answer.specs.Lines.{headOf}
 use Rattle.model.specs.declared.profile.Profile.{Profile}
 use Rattle.model.specs.declared.profile.Scale.{Scale}

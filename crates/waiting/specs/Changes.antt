@@ -48,8 +48,11 @@ sent w c =
     record { last = record { 0 = cond (w .stable) (netOf w) (c .last .0) }; threshold = c .threshold; mode = c .mode; owed = not (w .stable); outside = false }
 
 -- owed, the next stable net is sent; else one that differs from the last by the threshold or more
+abbrev pub isDueBy : Scale → Weighing → Sending → Bool
+isDueBy k w c = cond (c .owed) (w .stable) (hasMoved (k .resolution) (c .threshold .0) (c .last .0) (netOf w))
+
 abbrev pub isDue : Profile → Weighing → Sending → Bool
-isDue p w c = cond (c .owed) (w .stable) (hasMoved (p .resolution) (c .threshold .0) (c .last .0) (netOf w))
+isDue p w c = isDueBy (scaleOf p) w c
 
 -- out of range + or - is sent once, until back in range; in range S S or S D where it is due
 unfoldable pub changeReaction : Profile → State → Reaction

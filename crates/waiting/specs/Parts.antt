@@ -1,25 +1,23 @@
 -- What the parts of the code promise each other: the waits of `Waits` and the sample of `Changes` by what weighing asks of a profile,
 -- and a sample by the groups of the state that it can change.
 -- Assumes nothing.
-use mathlib.Core.Bool.{Bool, cond, _&&_}
+use mathlib.Core.Bool.{cond, _&&_}
 use Rattle.answer.specs.Commands.{placeT, placeZ}
 use Rattle.answer.specs.declared.answer.Answer.the-variants as answers
 use Rattle.answer.specs.declared.answer.Status.the-variants.{A}
 use Rattle.model.specs.declared.profile.Profile.{Profile}
 use Rattle.model.specs.declared.profile.Scale.{Scale}
 use Rattle.model.specs.declared.react.Reaction.{Reaction}
-use Rattle.model.specs.declared.sending.Sending.{Sending}
 use Rattle.model.specs.declared.state.Pending.{Pending}
 use Rattle.model.specs.declared.state.Pending.the-variants.{Nothing, Weigh, Zero, Tare, Change}
 use Rattle.model.specs.declared.state.State.{State}
 use Rattle.model.specs.declared.weighing.Weighing.{Weighing}
 use Rattle.model.specs.Groups.{withWaiting, withSending, reaction, chosenReaction, notWaiting}
 use Rattle.model.specs.States.{isPending}
-use Rattle.waiting.specs.Changes.{goneOutside, keptInside, sent, startedBy}
-use Rattle.waiting.specs.Waits.{measuredReaction, settledReaction, unaskedAs, waited}
+use Rattle.waiting.specs.Changes.{goneOutside, isDueBy, keptInside, sent}
+use Rattle.waiting.specs.Waits.{measuredReaction, sendingBy, settledReaction, unaskedAs, waited}
 use Rattle.weighing.specs.declared.weighing.Measured.{Measured}
-use Rattle.weighing.specs.Weighings.{netOf, outsideBy, weighedBy, zeroedBy, taredBy}
-use Rattle.weight.specs.Changes.{hasMoved}
+use Rattle.weighing.specs.Weighings.{outsideBy, weighedBy, zeroedBy, taredBy}
 
 -- ---- by what weighing asks of a profile
 
@@ -30,13 +28,6 @@ settledBy k Zero w = zeroedBy k w placeZ A
 settledBy k Tare w = taredBy k w placeT
 settledBy k Change w = record { weighing = w; answer = weighedBy k w }
 
-abbrev pub sendingBy : Scale → Pending → Weighing → Sending → Sending
-sendingBy k Nothing w c = c
-sendingBy k Weigh w c = c
-sendingBy k Zero w c = c
-sendingBy k Tare w c = c
-sendingBy k Change w c = startedBy k w c
-
 abbrev pub settledReactionBy : Scale → State → Pending → Reaction
 settledReactionBy k s pending =
     measuredReaction (withSending s (sendingBy k pending (s .weighing) (s .sending))) (settledBy k pending (s .weighing))
@@ -46,9 +37,6 @@ begunBy k s pending =
     chosenReaction (s .weighing .sampled && s .weighing .stable)
     (settledReactionBy k s pending)
     (reaction (withWaiting s (record { pending = pending; unstable = 0 })) answers.Nothing)
-
-abbrev pub isDueBy : Scale → Weighing → Sending → Bool
-isDueBy k w c = cond (c .owed) (w .stable) (hasMoved (k .resolution) (c .threshold .0) (c .last .0) (netOf w))
 
 unfoldable pub changeReactionBy : Scale → State → Reaction
 changeReactionBy k s =

@@ -9,6 +9,7 @@ use Rattle.answer.specs.declared.answer.Answer.the-variants.{Plain}
 use Rattle.answer.specs.declared.answer.Answer.the-variants as answers
 use Rattle.answer.specs.declared.answer.Status.the-variants.{A, I}
 use Rattle.model.specs.declared.profile.Profile.{Profile}
+use Rattle.model.specs.declared.profile.Scale.{Scale}
 use Rattle.model.specs.declared.state.Pending.{Pending}
 use Rattle.model.specs.declared.sending.Mode.{Mode}
 use Rattle.model.specs.declared.sending.Mode.the-variants.{Off, EachSample, OnChange}
@@ -19,11 +20,12 @@ use Rattle.weight.specs.declared.loads.Load.{Load}
 use Rattle.model.specs.declared.weighing.Weighing.{Weighing}
 use Rattle.model.specs.Groups.{withWeighing, withWaiting, withSending, reaction, chosenReaction, notWaiting}
 use Rattle.model.specs.Sendings.{isOff}
+use Rattle.model.specs.Profiles.{scaleOf}
 use Rattle.model.specs.States.{isPending}
 use Rattle.model.specs.declared.react.Reaction.{Reaction}
 use Rattle.weighing.specs.declared.weighing.Measured.{Measured}
 use Rattle.answer.specs.Lines.{headOf}
-use Rattle.waiting.specs.Changes.{started, changeReaction}
+use Rattle.waiting.specs.Changes.{startedBy, changeReaction}
 use Rattle.weighing.specs.Weighings.{weighed, withSample, zeroed, tared}
 
 -- the weighing that a command made, and its answer
@@ -49,12 +51,15 @@ settled p Tare w = tared p w placeT
 settled p Change w = record { weighing = w; answer = weighed p w }
 
 -- SR runs from then on
+abbrev pub sendingBy : Scale → Pending → Weighing → Sending → Sending
+sendingBy k Nothing w c = c
+sendingBy k Weigh w c = c
+sendingBy k Zero w c = c
+sendingBy k Tare w c = c
+sendingBy k Change w c = startedBy k w c
+
 abbrev pub sendingOf : Profile → Pending → Weighing → Sending → Sending
-sendingOf p Nothing w c = c
-sendingOf p Weigh w c = c
-sendingOf p Zero w c = c
-sendingOf p Tare w c = c
-sendingOf p Change w c = started p w c
+sendingOf p pending w c = sendingBy (scaleOf p) pending w c
 
 -- at the latest sample of a state
 unfoldable pub settledReaction : Profile → State → Pending → Reaction

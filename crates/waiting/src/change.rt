@@ -107,7 +107,7 @@ fn sent(weighing: Weighing, sending: Sending) -> Sending
 }
 
 fn is_due(scale: Scale, weighing: Weighing, sending: Sending) -> bool
-    ensures { λ r. ⌜ r ≡ parts.isDueBy scale weighing sending ⌝ }
+    ensures { λ r. ⌜ r ≡ meaning.isDueBy scale weighing sending ⌝ }
 {
     let resolution = scale.resolution;
     let threshold = sending.threshold;

@@ -71,7 +71,7 @@ pub fn settled(scale: Scale, pending: Pending, weighing: Weighing) -> Measured
 
 // SR runs from then on.
 pub fn sending_of(scale: Scale, pending: Pending, weighing: Weighing, sending: Sending) -> Sending
-    ensures { λ r. ⌜ r ≡ parts.sendingBy scale pending weighing sending ⌝ }
+    ensures { λ r. ⌜ r ≡ meaning.sendingBy scale pending weighing sending ⌝ }
 {
     match pending {
         Pending::Nothing => sending,

@@ -28,6 +28,7 @@ use Rattle.weight.specs.declared.loads.Load.{Load}
 use Rattle.model.specs.declared.weighing.Weighing.{Weighing}
 use Rattle.model.specs.Profiles.{profileAllowed, textOf20, textOf40, textAllowed20, textAllowed40}
 use Rattle.commands.specs.Reactions.{weighing, zeroing, run, changing, identificationOf, performed, byteReaction, sendingAs, situationOf}
+use Rattle.commands.proofs.Ways.{by-choice, run-cases, change-cases, sample-cases}
 use Rattle.model.specs.declared.sending.Mode.the-variants.{Off}
 use Rattle.model.specs.Groups.{withLine, withSending}
 use Rattle.waiting.specs.Changes.{withThreshold}
@@ -40,8 +41,6 @@ use Rattle.history.proofs.AnswerKinds.{Tests, weighed-weighs, tared-tar
 use Rattle.history.proofs.DueWeights.{net-printable, gross-printable, tare-printable}
 use Rattle.history.proofs.HostReads.{ReadByHost, nothing-read, list-read, plain-read, error-read, versions-read, text-read, weight-read}
 use Rattle.history.proofs.SentAnswers.{in-limits}
-use Rattle.history.proofs.Ways.{Ruled, by-choice, run-cases, change-cases, sample-cases}
-use Rattle.history.proofs.Verdicts.{verdict-proper, verdict-ruled}
 use Rattle.history.proofs.WeightLines.{weighed-shows, tared-shows, tared-now-shows, told-shows}
 use Rattle.history.specs.Tally.{isWeightAnswer, tellsNet, grantsTare}
 use Rattle.line.specs.declared.judge.Verdict.{Verdict}
@@ -53,6 +52,7 @@ use Rattle.line.specs.Judging.{judgement}
 use Rattle.line.specs.Receiving.{clearedLine, receivedByte}
 use Rattle.line.specs.Unbounded.{Marked, finishedLine, judgementOf}
 use Rattle.line.proofs.Kept.{Holds, Keeps, ends-alike, holds-finished, holds-judged}
+use Rattle.line.proofs.Proper.{Ruled, verdict-proper, verdict-ruled}
 use Rattle.line.proofs.Verdicts.{busy-line, wrong-line, no-sample-line}
 use Rattle.weight.specs.Printing.{printable}
 use Rattle.weight.specs.Rounding.{roundAway, stepsOf, placesOf}

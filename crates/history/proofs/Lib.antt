@@ -17,12 +17,10 @@ mod SendsLine
 mod SendsSample
 mod SentAnswers
 mod SentHeads
-mod StaysAllowed
 mod Stepping
 mod Tallying
 mod TypedLines
 mod Verdicts
 pub mod WaitsEnd
 mod WaitsStep
-mod Ways
 mod WeightLines

@@ -7,6 +7,8 @@ use mathlib.Core.Bool.{Bool, true}
 use mathlib.Core.List.{List}
 use lib.ListN.{take}
 use Rattle.commands.specs.Reactions.{byteReaction, situationOf}
+use Rattle.commands.proofs.StaysAllowed.{byte-allowed, sample-allowed}
+use Rattle.commands.proofs.Ways.{by-choice}
 use Rattle.device.specs.declared.call.Called.{Called}
 use Rattle.device.specs.Calls.{answerBytes}
 use Rattle.line.specs.declared.judge.Verdict.{Verdict}
@@ -32,12 +34,10 @@ use Rattle.history.proofs.Following.{Follows}
 use Rattle.history.proofs.Performing.{awaiting-is}
 use Rattle.history.proofs.SendsLine.{Follow, performed-sent}
 use Rattle.history.proofs.SendsSample.{SampleSent, sample-sent}
-use Rattle.history.proofs.StaysAllowed.{byte-allowed, sample-allowed}
 use Rattle.history.proofs.Stepping.{FollowsState, start-followed, Stepped, byte-stepped, sample-stepped}
 use Rattle.history.proofs.WaitsEnd.{byte-reacts, start-follows}
 use Rattle.history.proofs.WaitsStep.{Reacts, sample-reacts}
 use Rattle.history.proofs.WaitsStep as waited
-use Rattle.history.proofs.Ways.{by-choice}
 
 -- the follower goes with the state: its tally, its record of waits, and what is sent unasked
 record FollowsSender (p : Profile) (s : State) (f : Sender) : Type 0 where
@@ -108,7 +108,7 @@ step p profile =
           sent-followed p s f (byteIs (markedAs b bad)) (byteReaction p s b bad) old
           (byte-delivered p s room profile (old .tally .allowed) call)
           (byte-stepped p profile s (f .tally) (old .tally) b bad room r buffer call)
-          (byte-reacts p s (f .waits) b bad (old .waits) (byte-allowed p profile s (old .tally .allowed) (f .waits .line) b bad (old .waits .line)))
+          (byte-reacts p s (f .waits) b bad (old .waits) (byte-allowed p profile s (old .tally .allowed) b bad (old .tally .line .held .cells)))
           (byte-sent p s f old b bad);
       sample = λ s f z stable room r buffer old call.
           let awaits : isAwaiting (f .waits .waiting) ≡ _ = ap isAwaiting (old .waits .waiting) ∙ awaiting-is (s .waiting .pending) in

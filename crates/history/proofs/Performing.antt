@@ -13,6 +13,7 @@ use Rattle.model.specs.declared.state.Pending.the-variants.{Nothing, Weigh, Zer
 use Rattle.model.specs.declared.state.State.{State}
 use Rattle.model.specs.declared.weighing.Weighing.{Weighing}
 use Rattle.commands.specs.Reactions.{weighing, run, changing, resetState, sendingAs, performed}
+use Rattle.commands.proofs.Ways.{by-choice, run-cases}
 use Rattle.model.specs.declared.sending.Mode.the-variants.{Off}
 use Rattle.model.specs.Groups.{withSending, notWaiting}
 use Rattle.waiting.specs.Changes.{withThreshold}
@@ -24,12 +25,12 @@ use Rattle.line.specs.declared.judge.Verdict.{Verdict}
 use Rattle.line.specs.declared.judge.Verdict.the-variants.{Erroneous, Reset, Busy, Wrong, NoSample, Run, Preset, Show}
 use Rattle.line.specs.declared.judge.Verdict.the-variants as verdicts
 use Rattle.line.specs.declared.receive.Line.{Line}
+use Rattle.line.proofs.Proper.{Ruled, RuledBy}
 use Rattle.text.specs.Ascii.{ascii, sameText}
 use Rattle.history.specs.Waits.{Awaited, nothing, command, isAwaiting, isChangeLine, identificationIn, awaitedHolds}
 use Rattle.weight.specs.declared.changes.Threshold.{Threshold}
-use Rattle.history.proofs.Ways.{Ruled, by-choice, run-cases}
 use Rattle.history.proofs.SentAnswers.{isSilent, weighed-sent, zeroed-sent, tared-sent, weighed-own, zeroed-own, tared-own}
-use Rattle.history.proofs.Verdicts.{resets, RuledBy}
+use Rattle.history.proofs.Verdicts.{resets}
 
 -- S, T, Z and SR
 abbrev pub isWaitName : List ℕ → Bool

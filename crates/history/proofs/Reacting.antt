@@ -19,6 +19,7 @@ use Rattle.model.specs.declared.weighing.Weighing.{Weighing}
 use Rattle.device.specs.Calls.{answerBytes}
 use Rattle.model.specs.Profiles.{profileAllowed}
 use Rattle.commands.specs.Reactions.{weighing, run, changing, identificationOf, resetState, performed, sendingAs, situationOf}
+use Rattle.commands.proofs.Ways.{run-cases, change-cases, sample-cases}
 use Rattle.model.specs.declared.sending.Mode.the-variants.{Off}
 use Rattle.model.specs.Groups.{withWaiting, withSending, reaction, chosenReaction}
 use Rattle.waiting.specs.Changes.{withThreshold}
@@ -29,6 +30,7 @@ use Rattle.line.specs.declared.judge.Verdict.the-variants.{Erroneous, Reset, Bu
 use Rattle.line.specs.declared.judge.Verdict.the-variants as verdicts
 use Rattle.line.specs.declared.receive.Line.{Line}
 use Rattle.line.specs.Unbounded.{Marked, endsUnbounded, finishedLine}
+use Rattle.line.proofs.Proper.{Ruled}
 use Rattle.weight.proofs.Allowed.{both-right}
 use Rattle.weight.proofs.Nearness.{near-refl}
 use Rattle.history.specs.Tally.{Tally, Input, byteIs, sampleIs, taken, ends, endedText, isResetLine, afterReset, withTareOf}
@@ -36,7 +38,6 @@ use Rattle.history.proofs.AnswerKinds.{Silent, nothing-silent, error-si
 use Rattle.history.proofs.Answering.{Answered, answered-silent, answered-quietly, answered-zeroed, answered-cleared, answered-weighed, answered-tared, answered-told, answered-typed, zero-exact, zero-rounded}
 use Rattle.history.proofs.Following.{Follows}
 use Rattle.history.proofs.Verdicts.{Says}
-use Rattle.history.proofs.Ways.{Ruled, run-cases, change-cases, sample-cases}
 use Rattle.history.proofs.WeightLines.{tared-shows, tared-now-shows}
 
 -- the tally accepts a reaction, and follows its weighing

@@ -11,12 +11,14 @@ use Rattle.answer.specs.declared.answer.Status.the-variants.{A}
 use Rattle.answer.specs.Commands.{nameOf, isSI, isSIR, placeS, placeSI, placeSIR, placeSR, placeT, placeTAC, placeTI, placeZ, placeZI, placeI4}
 use Rattle.answer.specs.Lines.{headOf}
 use Rattle.commands.specs.Reactions.{changing, identificationOf, performed, resetState, run, sendingAs, showingWeight, situationOf}
+use Rattle.commands.proofs.Ways.{by-choice, run-cases}
 use Rattle.device.specs.Calls.{answerBytes}
 use Rattle.line.specs.declared.judge.Verdict.{Verdict}
 use Rattle.line.specs.declared.judge.Verdict.the-variants.{Erroneous, Reset, Busy, Wrong, NoSample, Run, Preset, Show}
 use Rattle.line.specs.declared.judge.Verdict.the-variants as verdicts
 use Rattle.line.specs.declared.receive.Line.{Line}
 use Rattle.line.specs.Unbounded.{Marked, byteIn, judgementOf}
+use Rattle.line.proofs.Proper.{Ruled}
 use Rattle.line.proofs.Verdicts.{ChangeLine, change-line, parameterIn, run-line}
 use Rattle.model.specs.declared.profile.Profile.{Profile}
 use Rattle.model.specs.declared.react.Reaction.{Reaction}
@@ -43,7 +45,6 @@ use Rattle.history.proofs.Following.{Follows}
 use Rattle.history.proofs.SentAnswers.{silent-empty}
 use Rattle.history.proofs.SentHeads.{net-in, heads, error-uncarried, list-uncarried, versions-uncarried, shown-uncarried, weight-shown-uncarried, cleared-uncarried, told-uncarried, unready-uncarried, wrong-uncarried, text-uncarried, zeroed-uncarried, tared-uncarried}
 use Rattle.history.proofs.Verdicts.{verdict-says}
-use Rattle.history.proofs.Ways.{Ruled, by-choice, run-cases}
 
 -- ---- what is sent unasked, as the follower has it
 

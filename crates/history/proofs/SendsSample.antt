@@ -10,6 +10,7 @@ use Rattle.answer.specs.declared.answer.Answer.{Answer}
 use Rattle.answer.specs.declared.answer.Answer.the-variants as answers
 use Rattle.answer.specs.declared.answer.Status.the-variants.{I}
 use Rattle.answer.specs.Lines.{headText, lineOf, headOf}
+use Rattle.commands.proofs.Ways.{change-cases, sample-cases}
 use Rattle.device.specs.Calls.{answerBytes}
 use Rattle.model.specs.declared.profile.Profile.{Profile}
 use Rattle.model.specs.declared.react.Reaction.{Reaction}
@@ -30,6 +31,7 @@ use Rattle.waiting.specs.Changes.{changeReaction, goneOutside, keptInside, sent
 use Rattle.waiting.specs.Changes as device
 use Rattle.waiting.specs.Waits.{placeOfPending, sampledState, sendingOf, settled, settledReaction, sampleReaction}
 use Rattle.weighing.specs.Weighings.{grossOf, isOutside, netOf, weighed}
+use Rattle.weighing.proofs.Reach.{net-within}
 use Rattle.weight.specs.Rounding.{allowedResolution, inRange}
 use Rattle.weight.specs.declared.loads.Load.{Load}
 use Rattle.weight.proofs.Allowed.{neither-left, neither-right, both-hold}
@@ -37,12 +39,11 @@ use Rattle.weight.proofs.Moves.{move-known}
 use Rattle.history.specs.OnChange.{Running, Sends, off, always, asked, running, grossIn, netIn, isOver, isUnder, afterAwaited, afterSent, afterUnasked, isDue, isSent, unaskedHolds, sendsAfter, sendsHold}
 use Rattle.history.specs.Tally.{Tally, sampleIs, begins}
 use Rattle.history.specs.Waits.{Waits, isAwaiting, isEmpty}
-use Rattle.history.proofs.DueWeights.{net-within, tare-range, within-range}
+use Rattle.history.proofs.DueWeights.{tare-range, within-range}
 use Rattle.history.proofs.Following.{Follows, gross-is}
 use Rattle.history.proofs.SendsLine.{sendsBy, sendsOf, Follow, free-sends, free-idle, started-sends}
 use Rattle.history.proofs.SentAnswers.{silent-empty}
 use Rattle.history.proofs.SentHeads.{net-in, heads}
-use Rattle.history.proofs.Ways.{change-cases, sample-cases}
 
 -- ---- a sample that finds a command waiting
 

@@ -16,6 +16,8 @@ use Rattle.model.specs.Refusals.{numberOfRefusal}
 use Rattle.device.specs.Calls.{answerBytes, ByteCalled, SampleCalled}
 use Rattle.model.specs.Profiles.{profileAllowed}
 use Rattle.commands.specs.Reactions.{performed, byteReaction, situationOf}
+use Rattle.commands.proofs.StaysAllowed.{byte-allowed, sample-allowed}
+use Rattle.commands.proofs.Ways.{change-cases, sample-cases}
 use Rattle.model.specs.Groups.{withLine, chosenReaction, reaction}
 use Rattle.waiting.specs.Waits.{sampledState, settledReaction, sampleReaction}
 use Rattle.model.specs.States.{stateAllowed, startState}
@@ -24,6 +26,7 @@ use Rattle.line.specs.Receiving.{clearedLine, receivedByte}
 use Rattle.line.specs.Judging.{judgement}
 use Rattle.line.specs.Unbounded.{endsUnbounded, afterMarked, finishedLine}
 use Rattle.line.proofs.Kept.{Keeps, markedAs, ends-alike, holds-finished, keeps-byte, keeps-next, keeps-empty, holds-judged}
+use Rattle.line.proofs.Proper.{verdict-ruled}
 use Rattle.model.proofs.StateFacts.{start-allowed}
 use Rattle.weight.proofs.Nearness.{near-refl}
 use Rattle.history.specs.Claim.{byteEvent, sampleEvent}
@@ -33,11 +36,9 @@ use Rattle.history.proofs.DueWeights.{tare-range}
 use Rattle.history.proofs.Following.{Follows}
 use Rattle.history.proofs.Reacting.{Reacted, performed-reacted, byte-answered, sample-reacted}
 use Rattle.history.proofs.Tallying.{tallied-line}
-use Rattle.history.proofs.Verdicts.{verdict-says, verdict-ruled}
-use Rattle.history.proofs.StaysAllowed.{byte-allowed, sample-allowed}
+use Rattle.history.proofs.Verdicts.{verdict-says}
 use Rattle.history.proofs.Delivering.{Delivered, given, withheld, byte-delivered, sample-delivered}
 use Rattle.history.proofs.Performing.{same-line, performed-kind}
-use Rattle.history.proofs.Ways.{change-cases, sample-cases}
 
 -- the tally follows an allowed state: its line and its weighing
 pub record FollowsState (p : Profile) (s : State) (t : Tally) : Type 0 where
@@ -123,7 +124,7 @@ module _ (p : Profile) (profile : profileAllowed p ≡ true) (s : State) (t : Ta
   byte-stepped room r buffer call =
       delivered-stepped p s t (byteIs (markedAs b bad)) (byteReaction p s b bad) kept
       (byte-delivered p s room profile (kept .allowed) call)
-      (byte-allowed p profile s (kept .allowed) (t .line) b bad (kept .line))
+      (byte-allowed p profile s (kept .allowed) b bad (kept .line .held .cells))
       byte-reacted
 
 -- ---- a sample

@@ -1,25 +1,23 @@
--- What the judgement of a finished line says of that line, in the tally's words, and what it promises of its parameter.
+-- What the judgement of a finished line says of that line, in the tally's words.
 -- Assumes nothing.
-use Prim.Native.Nat.{ℕ, _≤_}
+use Prim.Native.Nat.{ℕ}
 use mathlib.Core.Path.{_≡_, refl, sym, ap, _∙_}
-use mathlib.Core.Bool.{Bool, true, false, not, _&&_, true≢false, false≢true}
+use mathlib.Core.Bool.{Bool, true, false, not, false≢true}
 use mathlib.Core.List.{List, map}
 use borrow.Author.Tests.{not-true}
-use Rattle.answer.specs.Commands.{nameOf, needsSample}
+use Rattle.answer.specs.Commands.{nameOf}
 use Rattle.line.specs.declared.judge.Situation.{Situation}
 use Rattle.line.specs.declared.judge.Verdict.{Verdict}
 use Rattle.line.specs.declared.judge.Verdict.the-variants.{Erroneous, Reset, Busy, Wrong, NoSample, Run, Preset, Change, Show}
-use Rattle.line.specs.declared.receive.Line.{Line}
 use Rattle.line.specs.Unbounded.{Marked, byteIn, anyFaulty, judgementOf}
-use Rattle.line.proofs.Kept.{Holds}
-use Rattle.line.proofs.Verdicts.{GoodLine, Shown, reset-line, reset-judged, run-line, preset-line, change-line, show-line, show-cells}
+use Rattle.line.proofs.Proper.{RunMay, run-may}
+use Rattle.line.proofs.Verdicts.{GoodLine, reset-line, reset-judged, run-line, preset-line}
 use Rattle.weight.specs.declared.amount.Tare.{Tare}
 use Rattle.text.specs.Ascii.{ascii, sameText}
 use Rattle.weight.proofs.Allowed.{both-left, both-right}
 use Rattle.text.proofs.Named.{same-is}
 use Rattle.history.specs.Tally.{isResetLine, typedText}
 use Rattle.history.proofs.TypedLines.{TypedAs, typed-as}
-use Rattle.history.proofs.Ways.{Ruled}
 
 -- ---- @
 
@@ -72,11 +70,6 @@ module _ (j : Situation) (f : List Marked) where
 
 -- ---- what each verdict says of the line
 
--- a command that may be run: it has a rule of its own, and the sample that it needs is there
-pub record RunMay (j : Situation) (c : ℕ) : Type 0 where
-  pub ruled : Ruled c
-  pub sample : needsSample c ≡ true → j .sampled ≡ true
-
 -- the line of a command run: its name alone
 pub record RunSays (j : Situation) (f : List Marked) (c : ℕ) : Type 0 where
   pub other : isResetLine f ≡ false
@@ -100,12 +93,6 @@ Says j f (Preset m) = PresetSays j f m
 Says j f (Change t) = isResetLine f ≡ false
 Says j f (Show n) = isResetLine f ≡ false
 
--- a sample that is not missing
-there-by : (n s : Bool) → (n && not s) ≡ false → n ≡ true → s ≡ true
-there-by true true e g = refl
-there-by true false e g = absurd (true≢false e)
-there-by false s e g = absurd (false≢true g)
-
 module _ (j : Situation) (f : List Marked) where
   by-verdict : {v : Verdict} → judgementOf j f ≡ v → isResetLine f ≡ resets v
   by-verdict h = sym (reset-test j f) ∙ ap resets h
@@ -117,16 +104,7 @@ module _ (j : Situation) (f : List Marked) where
   verdict-says (Wrong c) h = by-verdict h
   verdict-says (NoSample c) h = by-verdict h
   verdict-says (Run c) h =
-      let line = run-line j f h in
-      record {
-        other = by-verdict h;
-        text = line .line .bytes;
-        may =
-            record {
-              ruled = record { known = line .a-name; no-reset = line .no-reset; no-show = line .no-show };
-              sample = there-by (needsSample c) (j .sampled) (line .has-sample);
-            };
-      }
+      record { other = by-verdict h; text = run-line j f h .line .bytes; may = run-may j f h }
   verdict-says (Preset m) h =
       let line = preset-line j f h in
       record {
@@ -136,51 +114,3 @@ module _ (j : Situation) (f : List Marked) where
       }
   verdict-says (Change t) h = by-verdict h
   verdict-says (Show n) h = by-verdict h
-
--- ---- what a verdict on l promises: a command runs that may, a preset and a threshold lie in 0..C, and a shown text is one that D takes
-
-abbrev pub Proper : Situation → Line → Verdict → Type 0
-Proper j l (Erroneous e) = Unit
-Proper j l Reset = Unit
-Proper j l (Busy c) = Unit
-Proper j l (Wrong c) = Unit
-Proper j l (NoSample c) = Unit
-Proper j l (Run c) = RunMay j c
-Proper j l (Preset m) = m .0 ≤ j .capacity
-Proper j l (Change t) = t .0 ≤ j .capacity
-Proper j l (Show n) = Shown l n
-
-module _ (j : Situation) (f : List Marked) (l : Line) (held : Holds l f) where
-  pub verdict-proper : (v : Verdict) → judgementOf j f ≡ v → Proper j l v
-  verdict-proper (Erroneous e) h = tt
-  verdict-proper Reset h = tt
-  verdict-proper (Busy c) h = tt
-  verdict-proper (Wrong c) h = tt
-  verdict-proper (NoSample c) h = tt
-  verdict-proper (Run c) h = verdict-says j f (Run c) h .may
-  verdict-proper (Preset m) h = verdict-says j f (Preset m) h .typed .range
-  verdict-proper (Change t) h = change-line j f h .within
-  verdict-proper (Show n) h = show-cells j l f n held (show-line j f h)
-
--- a command that is run has a rule
-abbrev pub RuledBy : Verdict → Type 0
-RuledBy (Erroneous e) = Unit
-RuledBy Reset = Unit
-RuledBy (Busy c) = Unit
-RuledBy (Wrong c) = Unit
-RuledBy (NoSample c) = Unit
-RuledBy (Run c) = Ruled c
-RuledBy (Preset m) = Unit
-RuledBy (Change t) = Unit
-RuledBy (Show n) = Unit
-
-pub verdict-ruled : (j : Situation) (f : List Marked) (v : Verdict) → judgementOf j f ≡ v → RuledBy v
-verdict-ruled j f (Erroneous e) h = tt
-verdict-ruled j f Reset h = tt
-verdict-ruled j f (Busy c) h = tt
-verdict-ruled j f (Wrong c) h = tt
-verdict-ruled j f (NoSample c) h = tt
-verdict-ruled j f (Run c) h = verdict-says j f (Run c) h .may .ruled
-verdict-ruled j f (Preset m) h = tt
-verdict-ruled j f (Change t) h = tt
-verdict-ruled j f (Show n) h = tt

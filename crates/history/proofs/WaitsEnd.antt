@@ -14,6 +14,8 @@ use Rattle.model.specs.Refusals.{numberOfRefusal}
 use Rattle.device.specs.Calls.{answerBytes}
 use Rattle.model.specs.Profiles.{profileAllowed}
 use Rattle.commands.specs.Reactions.{performed, byteReaction, situationOf}
+use Rattle.commands.proofs.StaysAllowed.{byte-allowed, sample-allowed}
+use Rattle.commands.proofs.Ways.{by-choice}
 use Rattle.model.specs.Groups.{withLine}
 use Rattle.waiting.specs.Waits.{sampleReaction}
 use Rattle.model.specs.States.{stateAllowed, startState}
@@ -23,14 +25,12 @@ use Rattle.line.specs.Judging.{judgement}
 use Rattle.line.specs.Receiving.{clearedLine, receivedByte}
 use Rattle.line.specs.Unbounded.{Marked, endsUnbounded, finishedLine}
 use Rattle.line.proofs.Kept.{Holds, Keeps, keeps-cleared, keeps-empty, markedAs, ends-alike, holds-finished, keeps-byte, holds-judged}
+use Rattle.line.proofs.Proper.{verdict-ruled}
 use Rattle.history.specs.Tally.{Input, byteIs, sampleIs}
 use Rattle.history.specs.Waits.{Waits, startWaits, afterInput, waitsHold, WaitsEnd}
 use Rattle.history.proofs.Along.{Followed, Step, over-calls}
-use Rattle.history.proofs.StaysAllowed.{byte-allowed, sample-allowed}
 use Rattle.history.proofs.Delivering.{Delivered, given, withheld, byte-delivered, sample-delivered}
-use Rattle.history.proofs.Verdicts.{verdict-ruled}
 use Rattle.history.proofs.Performing.{same-line, performed-kind}
-use Rattle.history.proofs.Ways.{by-choice}
 use Rattle.history.proofs.WaitsStep.{Follows, Reacts, ended-reacts, joined-reacts, sample-reacts}
 
 -- a byte that ends no line joins it
@@ -89,7 +89,7 @@ step p profile =
           delivered-followed p s w (byteIs (markedAs b bad)) (byteReaction p s b bad)
           (byte-delivered p s room profile (old .allowed) call)
           old
-          (byte-reacts p s w b bad old (byte-allowed p profile s (old .allowed) (w .line) b bad (old .line)));
+          (byte-reacts p s w b bad old (byte-allowed p profile s (old .allowed) b bad (old .line .held .cells)));
       sample = λ s w z stable room r buffer old call.
           delivered-followed p s w (sampleIs (z .0) stable) (sampleReaction p s z stable)
           (sample-delivered p s room profile (old .allowed) call)

@@ -20,6 +20,7 @@ use Rattle.model.specs.Groups.{withLine, withSending, withWaiting, reaction, no
 use Rattle.waiting.specs.Changes.{goneOutside, keptInside, sent}
 use Rattle.waiting.specs.Waits.{sampledState, placeOfPending, settledReaction, sampleReaction}
 use Rattle.commands.specs.Reactions.{situationOf}
+use Rattle.commands.proofs.Ways.{change-cases, sample-cases}
 use Rattle.model.specs.States.{isPending, stateAllowed}
 use Rattle.weighing.specs.Weighings.{weighed}
 use Rattle.line.specs.declared.judge.Verdict.{Verdict}
@@ -30,7 +31,6 @@ use Rattle.line.proofs.Verdicts.{run-line, change-line}
 use Rattle.model.proofs.StateFacts.{allowed-state}
 use Rattle.history.specs.Tally.{Input, byteIs, sampleIs, isResetLine}
 use Rattle.history.specs.Waits.{Waits, nothing, command, isAwaiting, isEmpty, mayWait, identificationIn, afterLine, afterInput, byteHolds, awaitedHolds, inputHolds}
-use Rattle.history.proofs.Ways.{change-cases, sample-cases}
 use Rattle.history.proofs.SentAnswers.{isSilent, silent-empty}
 use Rattle.history.proofs.Performing.{Performed, answered, dropped, begins, changes, awaitedOf, awaiting-is, settled-sent, settled-own}
 use Rattle.history.proofs.Verdicts.{resets, reset-test}

@@ -1,6 +1,8 @@
+pub mod InCells
 mod Joining
 pub mod Kept
 mod Parameters
+pub mod Proper
 mod Rows
 mod Scanning
 pub mod Verdicts

@@ -1,4 +1,4 @@
--- What a command and what a sample can do: one case law each, by which the theorems over histories go, one line a way.
+-- What a command and what a sample can do: one case law each, by which the laws on reactions go, one line a way.
 -- Assumes nothing.
 use mathlib.Core.Path.{_≡_, refl, sym, ap, _∙_}
 use mathlib.Core.Bool.{Bool, true, false, cond, _||_, false≢true}
@@ -6,14 +6,15 @@ use Prim.Native.Nat.{ℕ, _+_, _≤_, _<_}
 use borrow.Author.Tests.{eqb-true, leb-true, leb-false}
 use native.Mathlib.Omega.{arith}
 use lib.Dec.{leb, eqb}
-use Rattle.answer.specs.Commands.{commandCount, kindOf, mayWait, needsSample, isSI, isSIR, isZI, isD, isDW, isT, isTA, isTAC, isTI, placeS, placeZ, placeZI, placeReset, placeD, placeSR, placeT, placeTA, placeTAC, placeTI, hasText, isI0, isI1}
+use Rattle.answer.specs.Commands.{kindOf, mayWait, needsSample, isSI, isSIR, isZI, isD, isDW, isT, isTA, isTAC, isTI, placeS, placeZ, placeZI, placeReset, placeD, placeSR, placeT, placeTA, placeTAC, placeTI, hasText, isI0, isI1}
 use Rattle.answer.specs.declared.answer.Answer.the-variants.{Plain}
 use Rattle.answer.specs.declared.answer.Answer.the-variants as answers
 use Rattle.answer.specs.declared.answer.Status.the-variants.{A, I}
 use Rattle.answer.specs.declared.command.Kind.{Kind}
 use Rattle.answer.specs.declared.command.Kind.the-variants.{Informs, Weighs, Zeroes, Resets, Shows, Sends, Tares, Unknown}
 use Rattle.answer.proofs.Rows.{informing-is, resetting, weighing-is, zeroing-is, showing-is, sending-is, taring-is, is-known, samples-are}
 use Rattle.commands.specs.Reactions.{informed, weighing, zeroing, showingWeight, showing, changing, taring, runAs, run, modeAfter, sendingAs}
+use Rattle.line.proofs.Proper.{Ruled}
 use Rattle.model.specs.declared.profile.Profile.{Profile}
 use Rattle.model.specs.declared.sending.Mode.{Mode}
 use Rattle.model.specs.declared.sending.Mode.the-variants.{Off, EachSample, OnChange}
@@ -34,12 +35,6 @@ by-choice P true f g = f refl
 by-choice P false f g = g refl
 
 -- ---- a command that is run
-
--- a line is judged to run a command of the table, and neither @ nor D
-pub record Ruled (c : ℕ) : Type 0 where
-  pub known : c < commandCount
-  pub no-reset : c ≡ placeReset → ⊥
-  pub no-show : c ≡ placeD → ⊥
 
 module _ (P : Reaction → Type 0) (p : Profile) (s : State) (c : ℕ) (r : Ruled c) where
   informing-ways : kindOf c ≡ Informs

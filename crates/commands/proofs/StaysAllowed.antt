@@ -1,14 +1,13 @@
 -- An allowed state stays one: no reaction leads to refusal 2.
 -- Assumes nothing.
-use mathlib.Core.Path.{_≡_, refl, sym, _∙_}
+use mathlib.Core.Path.{_≡_, refl}
 use mathlib.Core.Bool.{Bool, true, false, cond, not, _&&_, _||_, or-true, false≢true}
-use mathlib.Core.List.{List}
 use Prim.Native.Nat.{ℕ, _+_, _≤_, zero-le}
 use native.Mathlib.Omega.{arith}
 use borrow.Author.Tests.{le-leb, leb-true, lt-ltb}
 use lib.Dec.{leb, ltb}
 use lib.IntN.{ℤ, pos, negℤ, natAbs}
-use lib.ListN.{take, drop}
+use lib.ListN.{length, take, drop}
 use lib.Seq.{take-at}
 use lib.Signed.{leZ, ltZ}
 use Rattle.answer.specs.Commands.{isSIR, placeT, placeTI, placeZ, placeZI}
@@ -26,13 +25,13 @@ use Rattle.model.specs.declared.state.Waiting.{Waiting}
 use Rattle.weight.specs.declared.loads.Load.{Load}
 use Rattle.model.specs.declared.weighing.Weighing.{Weighing}
 use Rattle.model.specs.Profiles.{textAllowed20, profileAllowed}
-use Rattle.commands.specs.Reactions.{weighing, zeroing, run, changing, modeAfter, sendingAs, weightShown, resetState, textShown, performed, byteReaction, situationOf}
+use Rattle.commands.specs.Reactions.{run, changing, modeAfter, sendingAs, weightShown, resetState, textShown, performed, byteReaction, situationOf}
 use Rattle.model.specs.Groups.{withLine, withWeighing, withWaiting, withSending, withMode, withDisplay, notWaiting}
 use Rattle.model.specs.Sendings.{isOff, isOnChange, lastAllowed, thresholdAllowed, changeAllowed}
 use Rattle.waiting.specs.Changes.{chosenSending, withThreshold, started, goneOutside, keptInside, sent}
 use Rattle.waiting.specs.Waits.{sampledState, settled, sendingOf, settledReaction, begun, sampleReaction}
 use Rattle.model.specs.States.{isPending, isChange, stateAllowed}
-use Rattle.weighing.proofs.Reach.{between}
+use Rattle.weighing.proofs.Reach.{between, not-below, net-within}
 use Rattle.weighing.specs.Weighings.{isOutside, netOf, stability, grossOf, withTare, withZero, chosenWeighing, zeroed, tared}
 use Rattle.model.proofs.ProfileFacts.{allowed-profile}
 use Rattle.model.proofs.StateFacts.{StateTests, allowed-tests, tests-allow}
@@ -42,13 +41,11 @@ use Rattle.line.specs.declared.judge.Verdict.the-variants as verdicts
 use Rattle.line.specs.declared.receive.Line.{Line}
 use Rattle.line.specs.Judging.{judgement}
 use Rattle.line.specs.Receiving.{clearedLine, receivedByte, lineLimit}
-use Rattle.line.specs.Unbounded.{Marked, endsUnbounded, finishedLine}
-use Rattle.line.proofs.Kept.{Holds, Keeps, markedAs, ends-alike, holds-finished, holds-judged, keeps-byte}
+use Rattle.line.proofs.InCells.{InCells, received-in}
+use Rattle.line.proofs.Proper.{Ruled, RunMay, Proper, judged-proper}
 use Rattle.line.proofs.Verdicts.{Shown}
 use Rattle.weight.proofs.Allowed.{both-hold, both-left, both-right, neither-left, neither-right}
-use Rattle.history.proofs.DueWeights.{not-below, net-within}
-use Rattle.history.proofs.Verdicts.{RunMay, Proper, verdict-proper}
-use Rattle.history.proofs.Ways.{by-choice, run-cases, change-cases, sample-cases}
+use Rattle.commands.proofs.Ways.{by-choice, run-cases, change-cases, sample-cases}
 
 -- ---- zero and tare
 
@@ -366,28 +363,78 @@ module _ (p : Profile) (least : 1 ≤ p .timeout) (s : State) (h : StateTests p 
   performed-allowed l (verdicts.Change n) t = change-allowed (n .0) t
   performed-allowed l (Show n) t = with-display p s h (textShown (s .display) l n) (shown-allowed l n t)
 
+-- a verdict leaves the cleared line alone
+module _ (p : Profile) where
+  begun-keeps : (s : State) (pending : Pending) → begun p s pending .state .line ≡ s .line
+  unfolding begun settledReaction
+  begun-keeps s pending = by-choice (λ x. x .state .line ≡ s .line) (s .weighing .sampled && s .weighing .stable) (λ e. refl) (λ e. refl)
+
+  changing-keeps : (s : State) (t : ℕ) → changing p s t .state .line ≡ s .line
+  unfolding changing
+  changing-keeps s t = begun-keeps (withSending s (withThreshold (s .sending) t)) Change
+
+  run-keeps : (s : State) (c : ℕ) → Ruled c → run p s c .state .line ≡ s .line
+  run-keeps s c ruled =
+      run-cases (λ x. x .state .line ≡ s .line) p s c ruled
+      refl
+      refl
+      (λ text. refl)
+      (λ e. begun-keeps (sendingAs s Off) Weigh)
+      (λ needs now. refl)
+      (λ e. begun-keeps s Zero)
+      (λ needs. refl)
+      refl
+      (λ e. changing-keeps s 0)
+      (λ e. begun-keeps s Tare)
+      (λ needs. refl)
+      refl
+      (λ e. refl)
+
+  performed-keeps : (s : State) (l : Line) (v : Verdict) → Proper (situationOf p s) l v → performed p s l v .state .line ≡ s .line
+  unfolding resetState
+  performed-keeps s l (Erroneous e) t = refl
+  performed-keeps s l Reset t = refl
+  performed-keeps s l (Busy c) t = refl
+  performed-keeps s l (Wrong c) t = refl
+  performed-keeps s l (NoSample c) t = refl
+  performed-keeps s l (Run c) t = run-keeps s c (t .ruled)
+  performed-keeps s l (Preset m) t = refl
+  performed-keeps s l (verdicts.Change n) t = changing-keeps s (n .0)
+  performed-keeps s l (Show n) t = refl
+
 -- ---- the two reactions
 
-module _ (p : Profile) (profile : profileAllowed p ≡ true) (s : State) (allowed : stateAllowed p s ≡ true) where
-  pub byte-allowed : (u : List Marked) (b : ℕ) (bad : Bool) → Keeps (s .line) u → stateAllowed p (byteReaction p s b bad .state) ≡ true
+module _ (p : Profile) (profile : profileAllowed p ≡ true) (s : State) (allowed : stateAllowed p s ≡ true) (b : ℕ) (bad : Bool) (cells : length (s .line .bytes) ≡ lineLimit) where
+  abbrev l : Line
+  l = receivedByte (s .line) b bad .line
+
+  held : InCells l
+  held = received-in (s .line) (record { cells = cells; len = leb-true (s .line .len) lineLimit (allowed-tests p s allowed .line) }) b bad
+
+  proper : Proper (situationOf p s) l (judgement (situationOf p s) l)
+  proper = judged-proper (situationOf p s) l (held .cells) (held .len)
+
+  pub byte-allowed : stateAllowed p (byteReaction p s b bad .state) ≡ true
   unfolding byteReaction
-  byte-allowed u b bad keeps =
-      let l : Line = receivedByte (s .line) b bad .line in
+  byte-allowed =
       let h : StateTests p s = allowed-tests p s allowed in
-      let same : receivedByte (s .line) b bad .ended ≡ endsUnbounded u (markedAs b bad) = ends-alike (s .line) u keeps b bad in
-      by-choice (λ x. stateAllowed p (x .state) ≡ true) (receivedByte (s .line) b bad .ended)
-      (λ e.
-      let held : Holds l (finishedLine u) = holds-finished (s .line) u keeps b bad (sym same ∙ e) in
       let t : State = withLine s (clearedLine l) in
       let v : Verdict = judgement (situationOf p s) l in
-      tests-allow p (performed p t l v .state)
-      (performed-allowed p (allowed-profile p profile .limits .timeout-least) t (with-line p s h (clearedLine l) refl) l v
-      (verdict-proper (situationOf p s) (finishedLine u) l held v
-      (sym (holds-judged (situationOf p s) l (finishedLine u) held)))))
+      by-choice (λ x. stateAllowed p (x .state) ≡ true) (receivedByte (s .line) b bad .ended)
       (λ e.
-      let kept = keeps-byte (s .line) u keeps b bad (sym same ∙ e) in
-      tests-allow p (withLine s l) (with-line p s h l (le-leb (l .len) lineLimit (omega (arith, kept .held .len)))))
+      tests-allow p (performed p t l v .state)
+      (performed-allowed p (allowed-profile p profile .limits .timeout-least) t (with-line p s h (clearedLine l) refl) l v proper))
+      (λ e. tests-allow p (withLine s l) (with-line p s h l (le-leb (l .len) lineLimit (held .len))))
 
+  -- and its line has as many cells
+  pub byte-cells : length (byteReaction p s b bad .state .line .bytes) ≡ lineLimit
+  unfolding byteReaction
+  byte-cells =
+      by-choice (λ x. length (x .state .line .bytes) ≡ lineLimit) (receivedByte (s .line) b bad .ended)
+      (λ e. rw (performed-keeps p (withLine s (clearedLine l)) l (judgement (situationOf p s) l) proper) (held .cells))
+      (λ e. held .cells)
+
+module _ (p : Profile) (profile : profileAllowed p ≡ true) (s : State) (allowed : stateAllowed p s ≡ true) where
   pub sample-allowed : (z : Load) (stable : Bool) → stateAllowed p (sampleReaction p s z stable .state) ≡ true
   unfolding changeAllowed
   sample-allowed z stable =

@@ -46,6 +46,13 @@ LF = good("\n")
 END = good("\r\n")
 
 
+def whole(chars, *faulty_places, word="w"):
+    """A whole-buffer call, with faulty bytes at these places."""
+    marked = (f"{byte:02X}" + "!" * (place in faulty_places)
+              for place, byte in enumerate(chars.encode("latin-1")))
+    return " ".join((word, *marked))
+
+
 def profile(c=220_000_000, u=1_000_000, r=4_400_000, w=3, unit="g", d=4, k=1):
     """Profile A, but for the values that are given."""
     return f"profile {c} {u} {r} {w} {unit} {d} {k}"
@@ -633,7 +640,7 @@ def refusal_3():
     # A power-on.
     play("room 15", "on", "room 16", "on")
     # A sample with no answer due needs no room.
-    play("room 0", "s 4", "u 5", "room 1024", "> SI")
+    play("room 0", "s 4", "u 5", "room 4096", "> SI")
     # The sample that ends a wait.
     play("> S", "room 17", "s 1000", "room 18", "s 1000")
     # The LF of SIR, each sample of the repetition, and the LF of S.
@@ -675,8 +682,9 @@ def before_power_on():
          "and a refused one leaves it so.")
     # Every other call.
     watch("> S", "> ", good("S"), faulty("S"), "s 1", "u 1")
+    watch(whole("S"), whole("S", 0), "w", "w+", whole("S", word="w-"))
     # A power-on's answer has 16 bytes.
-    watch("room 15", "on", "> S")
+    watch("room 15", "on", "> S", whole("S"))
     watch("room 16", "on", "> S")
     # No line of the script's.
     watch("@ on")
@@ -980,6 +988,229 @@ def sr_manual():
     watch("s 100000000", "> SR 10.00 g", "u 115230000", "s 200000000")
 
 
+# ---- Document 02, No. 2: a whole buffer of received bytes
+
+
+def buffer_lines():
+    part("A whole buffer is its bytes taken singly: each line with its own answer, "
+         "and the line at its end goes on.")
+    power_on(PROFILE_A, text(2, ""), text(3, ""), text(4, "VA-0001"), text(5, ""))
+    watch("w", whole("DW\r\nTAC\r\nQ\r\n"))
+    watch(whole("DW\r\nTA"), whole("C"), "w", CR, whole("\n"))
+    # A line by both calls, and a CR at the end of one with the LF of the next.
+    watch(whole("D"), good("W"), whole("\r"), LF, good("DW\r"), whole("\nDW"), "> ")
+    watch(whole("DW\r"), whole("\r"), whole("\n"), whole("\r"), whole("DW\r\n"))
+    # CR and LF in odd places, empty lines, a line that is too long.
+    watch(whole("\nDW\r\n\rDW\r\nDW\r\r\nDW\rx\n\r\n\r\n\r\n"))
+    watch(whole("S" * 65 + "\r\n" + "S".ljust(64) + "\r\nDW\r\n"))
+    watch(whole("S" * 64), whole("S\r\n"))
+    # A power-on drops the line.
+    watch(whole("DW"), "on", whole("\r\n"), whole("D", 0), "on", whole("DW\r\n"))
+
+
+def buffer_commands():
+    part("Every command in one buffer, and in a buffer each; a command finds what those before "
+         "it left.")
+    power_on()
+    play("room 4096")
+    every = "".join(name + "\r\n" for name in NAMES)
+    watch("s 5000", whole(every), "s 7000", whole(every), "u 9000", whole(every), "s 9000")
+    for name in NAMES:
+        watch(whole(name + "\r\n"))
+    power_on()
+    # Tare and zero to the microgram, and a text.
+    watch("s 10000050", whole("T\r\nSI\r\nTAC\r\nSI\r\nTA 1.5 g\r\nSI\r\nTA\r\n"))
+    watch("s 1049", whole('Z\r\nSI\r\nD "A"\r\nD "B\r\nDW 1\r\n'))
+    watch(whole("DW\r\nSI\r\n@\r\nSI\r\n"))
+    # A wait begins, and @ drops it; one that a sample ends.
+    watch(whole("@\r\n"), "u 1", whole("T\r\nSI\r\nTA x\r\nS 1\r\nQ\r\n@\r\nS\r\n"), "u 2")
+    watch(whole("SI\r\n"), "s 3")
+    # A repetition, and SR.
+    watch(whole("SIR\r\n"), "u 4", whole("DW\r\n"), "u 5", whole("SR 1 g\r\nS 1\r\n"), "s 6")
+    watch("s 1000006", "u 2000006", whole("TA 1 g\r\nTAC\r\n"), "s 6", whole("SI\r\n"), "s 6")
+    play("room 256")
+
+
+def buffer_marks():
+    part("Marks: 0 is good, anything else faulty, in each place; the mark of a faulty byte is "
+         "1 + its place mod 255.")
+    power_on()
+    watch(whole("S\r\n\r\n", 1))
+    line = "DW\r\n"
+    for place in range(len(line)):
+        watch(whole(line + line, place), whole("\r\n"))
+    # Faulty in one call and ended in the next; every byte faulty.
+    watch(whole("D", 0), whole("W\r\n"), whole("DW", 1), END)
+    watch(whole(line, 0, 1, 2, 3), whole("\r\n"))
+    # The first and the last line of three; a faulty byte that is dropped.
+    watch(whole(line * 3, 1), whole(line * 3, 9), whole("S" * 70 + "\r\n" + line, 66))
+    # Marks of 2, 3, 4, 127, 128, 129, 254, 255, 1 and 2.
+    for place in (1, 2, 3, 126, 127, 128, 253, 254, 255, 256):
+        play(whole("S" * 260 + "\r\n" + line, place))
+
+
+def buffer_rooms():
+    part("The answers share the room. The call stops before the byte whose answer does not fit; "
+         "the next goes on from there.")
+    power_on()
+    twice = "SI\r\nSI\r\n"
+    for room in (0, 4):
+        watch(f"room {room}", whole(twice), "room 5", whole("\n"))
+    for room in (5, 8, 9):
+        watch(f"room {room}", whole(twice), whole("\n"))
+    for room in (10, 11):
+        watch(f"room {room}", whole(twice))
+    # A shorter answer is not reached past one that does not fit.
+    listed = "I0\r\nQ\r\n"
+    watch("room 243", whole(listed), "room 244", whole("\nQ\r\n"), "room 4", whole("\n"))
+    watch("room 247", whole(listed), LF, "room 248", whole(listed))
+    watch("room 15", whole("I4\r\nQ\r\n"), "room 19", whole("\nQ\r\n"))
+    watch("room 20", whole("\nI4\r\n"), whole("\nQ\r\n"))
+    # The LF alone, and more after it.
+    watch(good("Q\r"), "room 0", whole("\n"), "room 3", whole("\nQ\r\n"))
+    watch("room 4", whole("\nQ\r\n"), whole("\n"))
+    # Never refusal 3, which is the byte call's.
+    watch("room 3", whole("Q\r\n"), LF, whole("\n"), "room 4", whole("\n"), "room 256")
+
+
+def buffer_no_room():
+    part("What is not answered needs no room: bytes that end no line, and a command that waits.")
+    power_on()
+    watch("room 0", whole("S\r\nSI\r\n"), "room 5", whole("\n"), "room 16", whole("@\r\n"))
+    watch("room 4", whole("Q\r\nT\r\nSI\r"), whole("\n"), "room 5", whole("\n"))
+    watch("room 16", whole("@\r\n"))
+    watch("room 4", whole("Q\r\nQ\rQ\n"), "room 0", whole("Q\r", 0), whole("\r\r"), whole("\n"))
+    watch("room 256", whole("\n"))
+
+
+def buffer_stops():
+    part("Where it stops, state, answers and count are those of the bytes taken; "
+         "what follows is taken by a later call.")
+    power_on()
+    watch("s 5000", "room 24", whole("T\r\nTAC\r\n"), "room 7", whole("\n"))
+    watch("room 25", whole("T\r\nTAC\r\n"))
+    watch("room 10", whole('D "AB"\r\nDW\r\nQ'), "room 6", whole("\nQ"), "room 4", whole("\r\n"))
+    watch("room 11", whole('D "AB"\r\nDW\r\nQ'), whole("\r\n"))
+    # @, which ends a wait and a repetition; SIR and SR, in a room of 17 and of 18.
+    watch("u 1", "room 15", whole("T\r\n@\r\n"), "room 16", whole("\n"))
+    watch("room 17", whole("SIR\r\nSI\r\n"), "room 18", whole("\nQ\r\n"), "room 4", whole("\n"))
+    watch("room 256", "s 0", "room 17", whole("SR\r\n"), "room 18", whole("\nSR 1 g\r\n"))
+    watch(whole("\n"), "u 1000000", "room 3", whole("SRX\r\n", 1), "room 4", whole("\n"))
+    watch("room 18", "s 0")
+    # A faulty byte before the stop and after it.
+    watch("room 4", whole("Q\r\nDW\r\n", 3), whole("\n"))
+    watch(whole("Q\r\nDW\r\n", 0, 6), whole("W\r\n"))
+    watch("room 256", whole("\r\n"))
+
+
+def buffer_large_rooms():
+    part("Rooms of 255, 256, 257, 4095 and 4096: sixteen lists have 3,904 bytes, "
+         "with 48 of ES 4,096.")
+    power_on()
+    for room in (255, 256, 257):
+        watch(f"room {room}", whole("I0\r\nZ I\r\nQ\r\nQ\r\nQ\r\n"), "room 256", whole("\r\n"))
+    lists = "I0\r\n" * 16
+    watch("room 4096", whole(lists + "Q\r\n" * 48), "room 4095", whole(lists + "Q\r\n" * 48))
+    watch(whole("\n"), whole("I0\r\n" * 17), whole("\n"), "room 256")
+
+
+def buffer_lengths():
+    part("Refusal 5: one mark fewer, one more, and more than 4,096 bytes; nothing is taken.")
+    power_on()
+    watch(whole("S", word="w-"), whole("S", word="w+"), "w+", whole("S"))
+    watch(whole("I\r\n", word="w-"), whole("I\r\n", 0, word="w+"), whole("I\r\n"))
+    for count in (0, 1, 63, 64, 65, 255, 256, 257, 4096, 4097):
+        watch(whole("X" * count), whole("\r\n"))
+    # The line that is held and the text that is shown stay as they are.
+    watch(whole('D "TEXT"\r\nDW\r'), whole("\n" * 4097))
+    watch(whole("\n", word="w-"), whole("\n", word="w+"), whole("\n"))
+    # 256 bytes in a room of 0: all that end no line; CR and LF.
+    watch("room 0", whole("S" * 256), whole("\r" * 256), whole("\n" * 256), "room 4")
+    watch(whole("\n" * 256), whole("\r" * 255), whole("\n" * 256), "room 256", whole("\r\n"))
+    # As many lines as 4,096 bytes can hold, in the largest room, which holds half of the answers.
+    watch("room 4096", whole("\r\n" * 2048), "room 256", whole("\n"))
+
+
+def buffer_refusals():
+    part("Refusals 1, 2 and 5 in this order, with any room, and for an empty buffer too.")
+    buffers = ("w", "w+", whole("S"), whole("S", 0), whole("S", word="w-"), whole("S", word="w+"),
+               whole("\n"))
+    power_on()
+    play("s 5000", "> Z", "s 7000", "> T", good("Q\r"))
+    for room in (256, 0):
+        play(f"room {room}")
+        # The profile is broken; the zero is above R; the tare is above C.
+        for given in (BROKEN, profile(r=4999), small(c=1999, u=1000, r=1999)):
+            play(given, *buffers, "state")
+    # More than 4,096 bytes, with a room of 0.
+    play(BROKEN, whole("\n" * 4097), profile(r=4999), whole("\n" * 4097), "state")
+    # Neither; in a room of 0, then of 4.
+    play(PROFILE_A)
+    watch("w", "w+", whole("\n", word="w-"), whole("\n"), "room 4", whole("\n"), "room 256")
+    # A wait with W samples counted; a repetition of SR whose last net is above C.
+    power_on()
+    play("> S", "u 1", "u 2", profile(w=3), "w", profile(w=2), *buffers, "state", PROFILE_A, "u 3")
+    power_on()
+    play("s 5000", "> SR", small(c=5000), "w", small(c=4999), *buffers, "state", PROFILE_A)
+    watch(whole("SI\r\n"))
+
+
+# Lines with the lengths of their answers, to a stable sample of 5 mg on profile A.
+TALK = [
+    ("DW", 6), ("SI", 18), ("T", 18), ("SI", 18), ("Q", 4), ("I1", 24), ("TAC", 7),
+    ("SIR", 18), ("TA 100.00 g", 19), ('D "HALLO 1"', 5), ("S\x00", 4), ("@", 16),
+    ("TI", 19), ("Z", 5), ("ZI", 6), ("SR 10.00 g", 18), ("TA 1 kg", 6), ("I5", 9), ("SRX", 4),
+    ("", 4), ("D", 5), ("S", 18), ("SR", 18), ("S 1", 4),
+]
+
+
+def sent_in_full(room):
+    """A driver that sends again what was not taken, with the same room."""
+    sent = "".join(line + "\r\n" for line, _ in TALK)
+    watch(whole(sent))
+    left, end = room, 0
+    for line, size in TALK:
+        end += len(line) + 2
+        if size > left:
+            # The call before it stopped at the line's LF.
+            watch(whole(sent[end - 1:]))
+            left = room
+        left -= size
+
+
+def buffer_drivers():
+    part("A driver that sends again what was not taken, in several rooms: "
+         "the answers are the same.")
+    for room in (24, 25, 42, 43, 100, 256, 272, 273, 4096):
+        play("room 256")
+        power_on()
+        play("s 5000", f"room {room}")
+        sent_in_full(room)
+    play("room 256")
+
+
+def buffer_conversation():
+    part("A longer conversation by all calls, in buffers that are cut anywhere.")
+    power_on(profile(d=2))
+    said = "".join(line + "\r\n" for line, _ in TALK + TALK)
+    loads = ("s 100000000", "u 129070000", "s 129080000", "s 2147483647", "s 70", "u -1000001",
+             "s 4400000")
+    at = turn = 0
+    while at < len(said):
+        size = (1, 7, 0, 23, 4, 40, 11)[turn % 7]
+        piece = said[at:at + size]
+        if turn % 4 == 2 and piece:
+            watch(good(piece))
+        else:
+            # Now and then the last byte of a piece is faulty.
+            watch(whole(piece, *[size - 1] * (turn % 11 == 5)))
+        if turn % 3 == 1:
+            watch(loads[turn // 3 % len(loads)])
+        at += size
+        turn += 1
+    watch(whole("\r\n"), "s 200000000", whole("SI\r\n@\r\n"))
+
+
 def conversation():
     part("Document 01's conversation.")
     power_on()
@@ -1002,8 +1233,14 @@ def other_lines():
     # Loads: at most 10 digits, within 32 bits.
     play("s 12345678901", "s 2147483648", "s -2147483649", "s 9999999999")
     play("u 0x10", "s 1\r")
-    # Rooms: 0 to 1024, at most 10 digits.
-    play("room", "room ", "room -1", "room 1025", "room 4294967296", "room 00000000010", "room 5 ")
+    # Rooms: 0 to 4096, at most 10 digits.
+    play("room", "room ", "room -1", "room 4097", "room 4294967296", "room 00000000010", "room 5 ")
+    # Whole buffers: their bytes as above, `!` directly after a faulty one; `w-` needs a byte.
+    play("w ", "w 5", "w 530", "w 53 ", "w  53", "w 53  0D", "w 5G", "w 53,0D", "w 53\r", "W 53")
+    play("w53")
+    play("w!", "w !", "w 53 !", "w !53", "w 53!!", "w 5!", "w 53! ", "f 53!", "b 53!")
+    play("w-", "w- ", "w-53", "w+ ", "w+53", "w -", "w- 5", "w+ 5", "w- 53 ", "w/ 53")
+    play("w\r", "w+\r", "w*", "w* 53", "w* 1 53")
     # Texts: 2 to 5, one space on each side.
     play("text 1 x", "text 6 x", "text 2", "text 2x", "text 22 x")
     play("text  2 x", "text -2 x", "Text 2 x")
@@ -1027,8 +1264,9 @@ def good_forms():
          "hexadecimal in either case, leading zeros, a minus before zero.")
     # dW, which is no name, then DW twice.
     play("b 64 57 0d 0A", "b 44 57 0d 0a", "b 44 57 0D 0A")
+    play("w 64 57 0d 0A", "w 44 57 0d 0a", "w 44 57 0D 0a!", "w 0D 0A", "w 0d 0D", "w 0a")
     play("s 0000000007", "s -0", "s -0000000007", "> SI")
-    play("room 0256", "profile 0220000000 01000000 04400000 03 g 04 01", "> TA")
+    play("room 4096", "room 0256", "profile 0220000000 01000000 04400000 03 g 04 01", "> TA")
 
 
 def comments_and_last_line():
@@ -1042,7 +1280,7 @@ def comments_and_last_line():
 
 
 def head():
-    play("# Plays every rule of document 01 once, and document 02's No. 1. "
+    play("# Plays every rule of document 01 once, and document 02's No. 1 and No. 2. "
          "Its stdout is what the independent implementation prints for it.")
     play("# Profile A stands at the start: C 220 g, U 1 g, R 4.4 g, W 3, g, 4 decimals, step 1, "
          "I4 VA-0001, the other texts empty.")
@@ -1108,6 +1346,18 @@ SCRIPT = [
     sr_refusal_2,
     sr_rooms,
     sr_manual,
+    # A whole buffer.
+    buffer_lines,
+    buffer_commands,
+    buffer_marks,
+    buffer_rooms,
+    buffer_no_room,
+    buffer_stops,
+    buffer_large_rooms,
+    buffer_lengths,
+    buffer_refusals,
+    buffer_drivers,
+    buffer_conversation,
     # The profile.
     text_lengths,
     text_bytes,

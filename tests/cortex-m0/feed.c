@@ -6,23 +6,32 @@
 typedef wide length;
 
 wide proved_calls(const byte *profiles, length, const byte *calls, length, byte *out, length);
+wide proved_buffers(const byte *profiles, length, const byte *calls, length, const byte *bytes, length, const byte *marks, length, byte *out,
+                    length);
 wide proved_lines(const byte *lines, length, wide *values);
 wide proved_rewritten(const byte *lines, length, byte *out, length);
 
-enum { CALLS = 1, LINES = 2, REWRITTEN = 4, ANSWERS = 8 };
+enum { CALLS = 1, LINES = 2, REWRITTEN = 4, ANSWERS = 8, BUFFERS = 16 };
 
-/* What is asked for, and the sizes of the three parts that follow. */
+/* What is asked for, and the sizes of the six parts that follow. */
 extern const struct input {
-    word what, profiles, calls, lines;
+    word what, profiles, calls, lines, script, bytes, marks;
     byte parts[];
 } input;
 
 enum { CALL = 8 };
-static byte out[256];
+static byte out[2048];
 
 static const byte *calls(void) { return input.parts + input.profiles; }
 
 static const byte *lines(void) { return calls() + input.calls; }
+
+/* The calls with whole buffers among them, the bytes of these, and their marks. */
+static const byte *script(void) { return lines() + input.lines; }
+
+static const byte *bytes(void) { return script() + input.script; }
+
+static const byte *marks(void) { return bytes() + input.bytes; }
 
 /* Of the first calls. */
 static wide sum_of_calls(word size) { return proved_calls(input.parts, input.profiles, calls(), size, out, sizeof out); }
@@ -81,6 +90,13 @@ static void tell_rewritten(void) {
     tell("rewritten", sum);
 }
 
+static void tell_buffers(void) {
+    word then = timer_now();
+    wide sum = proved_buffers(input.parts, input.profiles, script(), input.script, bytes(), input.bytes, marks(), input.marks, out, sizeof out);
+    tell("ticks", ticks_since(then));
+    tell("buffers", sum);
+}
+
 int work(void) {
     word then = timer_now();
     spin(2000000);
@@ -89,6 +105,7 @@ int work(void) {
     if (input.what & CALLS) tell_calls();
     if (input.what & LINES) tell_lines();
     if (input.what & REWRITTEN) tell_rewritten();
+    if (input.what & BUFFERS) tell_buffers();
     tell("stack", stack_used());
     return 0;
 }

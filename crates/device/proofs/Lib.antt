@@ -1,3 +1,9 @@
 pub mod BenchCases
+mod BufferRefusals
+pub mod Cuts
 mod Delivery
 mod Refusals
+mod Taking
+pub mod Took
+mod Turning
+mod Turns

@@ -89,7 +89,7 @@ module _ (p : Profile) (s : State) (room : List ℕ) where
           record { numbered = rw (h, told-room f); returned = rw (h, told-room f); counted = rw (h, told-room f); left = k ∙ rw (told-room f) }
 
   -- no answer leaves the buffer as it was
-  delivered-nothing : (t : State) → delivered p s (reaction t Nothing) room ≡ record { number = 0; state = t; count = 0; buffer = room }
+  pub delivered-nothing : (t : State) → delivered p s (reaction t Nothing) room ≡ record { number = 0; state = t; count = 0; buffer = room }
   unfolding delivered answerBytes lineOf laidIn
   delivered-nothing t = rw (le-leb 0 (length room) (omega arith))
 

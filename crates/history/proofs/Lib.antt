@@ -17,6 +17,7 @@ mod SendsLine
 mod SendsSample
 mod SentAnswers
 mod SentHeads
+pub mod StandsFor
 mod Stepping
 mod Tallying
 mod TypedLines

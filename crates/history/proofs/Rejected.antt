@@ -12,9 +12,10 @@ use Rattle.text.specs.UnitTexts.{firstNamed, unitNamed}
 use Rattle.weight.specs.Places.{lastDigits, digitsIn, digitsOf, decimalOf, numberText, widthOf, fitsField}
 use Rattle.weight.specs.Rounding.{halfUp, placeFemtograms, stepFemtograms, exactFemtograms}
 use Rattle.weight.specs.Amounts.{typedFemtograms, typedMicrograms, amountOf}
+use Rattle.history.specs.Claim.{takenEvents}
 use Rattle.history.specs.EndToEnd.{piecesAfter, piecesOf, piecesHold, hostAccepts}
 use Rattle.history.specs.OnChange.{sendsAfterLine, sendsAfter, sendsHold, senderHolds}
-use Rattle.history.specs.Rejected.{weightRows, stateRows, waitRows, sentRows, sendingRows, rows, allTell}
+use Rattle.history.specs.Rejected.{weightRows, stateRows, waitRows, sentRows, sendingRows, bufferRows, rows, allTell}
 use Rattle.history.specs.Tally.{afterReset, granted, weightHolds, loadHolds, typedHolds, tallied, holds, afterEvent, eventHolds, accepts}
 use Rattle.history.specs.Waits.{waitsHold}
 
@@ -25,7 +26,9 @@ unfolding
     waitRows
     sentRows
     sendingRows
+    bufferRows
     rows
+    takenEvents
     allTell
     afterReset
     granted

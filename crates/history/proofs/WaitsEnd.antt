@@ -12,6 +12,7 @@ use Rattle.model.specs.declared.react.Reaction.{Reaction}
 use Rattle.model.specs.declared.state.State.{State}
 use Rattle.model.specs.Refusals.{numberOfRefusal}
 use Rattle.device.specs.Calls.{answerBytes}
+use Rattle.device.proofs.Took.{lengths-alone}
 use Rattle.model.specs.Profiles.{profileAllowed}
 use Rattle.commands.specs.Reactions.{performed, byteReaction, situationOf}
 use Rattle.commands.proofs.StaysAllowed.{byte-allowed, sample-allowed}
@@ -27,9 +28,9 @@ use Rattle.line.specs.Unbounded.{Marked, endsUnbounded, finishedLine}
 use Rattle.line.proofs.Kept.{Holds, Keeps, keeps-cleared, keeps-empty, markedAs, ends-alike, holds-finished, keeps-byte, holds-judged}
 use Rattle.line.proofs.Proper.{verdict-ruled}
 use Rattle.history.specs.Tally.{Input, byteIs, sampleIs}
-use Rattle.history.specs.Waits.{Waits, startWaits, afterInput, waitsHold, WaitsEnd}
-use Rattle.history.proofs.Along.{Followed, Step, over-calls}
-use Rattle.history.proofs.Delivering.{Delivered, given, withheld, byte-delivered, sample-delivered}
+use Rattle.history.specs.Waits.{Waits, startWaits, afterInput, waitsHold, WaitsEnd, BuffersTaken}
+use Rattle.history.proofs.Along.{Followed, Step, over-calls, reached}
+use Rattle.history.proofs.Delivering.{Started, started, Delivered, given, withheld, byte-delivered, sample-delivered}
 use Rattle.history.proofs.Performing.{same-line, performed-kind}
 use Rattle.history.proofs.WaitsStep.{Follows, Reacts, ended-reacts, joined-reacts, sample-reacts}
 
@@ -103,3 +104,10 @@ start-follows p = record { allowed = start-allowed p; line = keeps-empty; waitin
 
 pub waits-end : WaitsEnd
 waits-end = over-calls {X = Waits} {Inv = Follows} {accepted = waitsHold} step startWaits start-follows
+
+-- the state after the calls is one that no call refuses
+pub buffers-taken : BuffersTaken
+buffers-taken p earlier room r buffer call none es s calls bytes marks lent t after called =
+    let on : Started p r buffer = started p earlier room call none in
+    let at = reached (step p (on .profile)) startWaits (rw (on .state) (start-follows p)) calls in
+    lengths-alone p s bytes marks lent (on .profile) (at .1 .allowed) called

@@ -11,6 +11,7 @@ use Rattle.profiles.specs.ProfileA.{profileWith}
 use Rattle.text.specs.Ascii.{ascii}
 use Rattle.weight.specs.declared.rounding.Resolution.{Resolution}
 use Rattle.weight.specs.declared.units.WeightUnit.the-variants.{G, Oz, Gn}
+use Rattle.history.specs.Claim.{takenEvents}
 use Rattle.history.specs.EndToEnd.{hostAccepts}
 use Rattle.history.specs.OnChange.{startSender, senderHolds}
 use Rattle.history.specs.Tally.{Event, Input, byteIs, sampleIs, startTally, accepts}
@@ -39,6 +40,10 @@ unanswered b = record { input = good b; refusal = 0; answer = [] }
 -- a command's bytes and CR have no answer; LF has this one
 abbrev pub line : String → String → List Event
 line command answer = map unanswered (ascii command ++ ascii "\r") ++ taken (good 10) answer
+
+-- what a whole-buffer call stands for: good bytes that it took, each with its own answer
+abbrev pub whole : String → List String → List Event
+whole bytes answers = takenEvents (map (λ (b : ℕ). record { byte = b; faulty = false }) (ascii bytes)) (map ascii answers)
 
 -- two unstable samples without an answer: one fewer than profile A waits for
 abbrev pub swings : List Event
@@ -282,8 +287,27 @@ sendingRows =
     (runs ++ line "SR x" "S L\r\n" ++ taken (stable (pos 5_000)) "S S     0.0050 g\r\n")
     ∷ []
 
+abbrev pub none : String
+none = ""
+
+unfoldable pub bufferRows : List Row
+bufferRows =
+    -- all answers of a whole buffer at its last byte
+    inGrams waits
+    (whole "SI\r\nSI\r\n" (none ∷ none ∷ none ∷ none ∷ none ∷ none ∷ none ∷ "S I\r\nS I\r\n" ∷ []))
+    (whole "SI\r\nSI\r\n" (none ∷ none ∷ none ∷ "S I\r\n" ∷ none ∷ none ∷ none ∷ "S I\r\n" ∷ []))
+    -- an LF whose answer did not fit, taken all the same
+    ∷ inGrams waits
+    (whole "SI\r\n" (none ∷ none ∷ none ∷ none ∷ []))
+    (whole "SI\r\n" (none ∷ none ∷ none ∷ []))
+    -- a tare set earlier in the same buffer does not count
+    ∷ inGrams tally
+    (taken (stable (pos 1_000_000)) "" ++ whole "TI\r\nSI\r\n" (none ∷ none ∷ none ∷ "T S     1.0000 g\r\n" ∷ none ∷ none ∷ none ∷ "S S     1.0000 g\r\n" ∷ []))
+    (taken (stable (pos 1_000_000)) "" ++ whole "TI\r\nSI\r\n" (none ∷ none ∷ none ∷ "T S     1.0000 g\r\n" ∷ none ∷ none ∷ none ∷ "S S     0.0000 g\r\n" ∷ []))
+    ∷ []
+
 unfoldable pub rows : List Row
-rows = weightRows ++ stateRows ++ waitRows ++ sentRows ++ sendingRows
+rows = weightRows ++ stateRows ++ waitRows ++ sentRows ++ sendingRows ++ bufferRows
 
 -- the wrong one is rejected, the right one accepted
 abbrev pub tells : Row → Bool

@@ -7,11 +7,17 @@ use mathlib.Core.Path.{_≡_}
 use mathlib.Core.Bool.{Bool, true, false, cond, not, _&&_, _||_}
 use mathlib.Core.List.{List, [], _∷_, _++_, map}
 use lib.Dec.{eqb}
+use Rattle.device.specs.declared.bytes.BytesTaken.{BytesTaken}
+use Rattle.device.specs.declared.call.Called.{Called}
+use Rattle.device.specs.Buffers.{lengthsAllowed, BytesCalled}
+use Rattle.device.specs.Calls.{PowerOnCalled}
 use Rattle.model.specs.declared.profile.Profile.{Profile}
+use Rattle.model.specs.declared.state.State.{State}
+use Rattle.model.specs.Refusals.{numberOfRefusal}
 use Rattle.line.specs.Unbounded.{Marked, endsUnbounded, finishedLine, byteIn, anyFaulty}
 use Rattle.text.specs.Ascii.{ascii, sameText}
 use Rattle.text.specs.Searching.{beforeSpace}
-use Rattle.history.specs.Claim.{OverCalls}
+use Rattle.history.specs.Claim.{Calls, OverCalls}
 use Rattle.history.specs.Tally.{Event, Input, byteIs, sampleIs, isResetLine, begins}
 
 -- the command that waits, by its identification
@@ -122,3 +128,16 @@ waitsHold p w (e ∷ es) =
 
 abbrev pub WaitsEnd : Type 0
 WaitsEnd = OverCalls (λ p sent es. waitsHold p startWaits es ≡ true)
+
+-- A whole-buffer call that is refused took no byte, and is no event: after the same lists of calls it is refused by 5 where its lengths
+-- are, and else not at all
+abbrev pub BuffersTaken : Type 0
+BuffersTaken =
+    (p : Profile) (earlier : State) (room : List ℕ) (r : Called) (buffer : List ℕ)
+    → PowerOnCalled p earlier room r buffer
+    → numberOfRefusal (r .refusal) ≡ 0
+    → (es : List Event) (s : State)
+    → Calls p (r .state) es s
+    → (bytes marks lent : List ℕ) (t : BytesTaken) (after : List ℕ)
+    → BytesCalled p s bytes marks lent t after
+    → numberOfRefusal (t .refusal) ≡ cond (lengthsAllowed bytes marks) 0 5

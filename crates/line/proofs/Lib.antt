@@ -4,5 +4,6 @@ pub mod Kept
 mod Parameters
 pub mod Proper
 mod Rows
+pub mod Running
 mod Scanning
 pub mod Verdicts

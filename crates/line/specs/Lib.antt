@@ -1,4 +1,5 @@
 pub mod Judging
 pub mod Parts
 pub mod Receiving
+pub mod Runs
 pub mod Unbounded

@@ -58,9 +58,13 @@ abbrev pub continuedLine : Line → ℕ → Bool → Line
 continuedLine l b bad =
     chosenLine (not bad && eqb b carriageReturn) (withReturn (settledLine l) true) (joinedLine (settledLine l) b bad)
 
--- a good LF ends a line whose last byte was a good CR
+-- a good LF after a good CR
+abbrev pub endsAfter : Bool → ℕ → Bool → Bool
+endsAfter returned b bad = not bad && (returned && eqb b lineFeed)
+
+-- it ends the line
 abbrev pub endsLine : Line → ℕ → Bool → Bool
-endsLine l b bad = not bad && (l .returned && eqb b lineFeed)
+endsLine l b bad = endsAfter (l .returned) b bad
 
 unfoldable pub receivedByte : Line → ℕ → Bool → Received
 receivedByte l b bad =

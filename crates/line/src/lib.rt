@@ -2,6 +2,7 @@
 mod judge;
 mod parameter;
 mod receive;
+mod run;
 mod scan;
 
 pub use judge::Situation;
@@ -12,3 +13,5 @@ pub use receive::Line;
 pub use receive::Received;
 pub use receive::cleared;
 pub use receive::receive_byte;
+pub use run::Run;
+pub use run::receive_run;

@@ -17,7 +17,7 @@ use model::start_state;
 use text::part;
 use weight::Load;
 
-const RECORD: usize = 8;
+pub const RECORD: usize = 8;
 
 const BYTE: u8 = 0;
 
@@ -26,14 +26,14 @@ const SAMPLE: u8 = 1;
 const POWER_ON: u8 = 2;
 
 // The profile of the calls that follow.
-const PROFILE: u8 = 3;
+pub const PROFILE: u8 = 3;
 
-struct Order {
-    kind: u8,
-    mark: bool,
-    room: usize,
-    byte: u8,
-    number: u32,
+pub struct Order {
+    pub kind: u8,
+    pub mark: bool,
+    pub room: usize,
+    pub byte: u8,
+    pub number: u32,
 }
 
 fn at_most(most: usize, n: usize) -> usize
@@ -46,7 +46,7 @@ fn at_most(most: usize, n: usize) -> usize
 }
 
 // A record, with no more room than there is.
-fn order_at(script: &[u8], at: usize, most: usize) -> Order
+pub fn order_at(script: &[u8], at: usize, most: usize) -> Order
     ensures { λ r. ⌜ r .room ≤ most ⌝ }
 {
     let record = part(script, at, RECORD);
@@ -77,7 +77,7 @@ fn load_of(n: u32) -> Load {
     Load(!((4_294_967_295 - n) as i32))
 }
 
-fn called(profile: Profile, state: State, order: Order, lent: &mut [u8]) -> Called {
+pub fn called(profile: Profile, state: State, order: Order, lent: &mut [u8]) -> Called {
     if order.kind == BYTE {
         return take_byte(profile, state, order.byte, order.mark, lent);
     }
@@ -87,15 +87,19 @@ fn called(profile: Profile, state: State, order: Order, lent: &mut [u8]) -> Call
     power_on(profile, state, lent)
 }
 
-fn added(sums: Sums, refusal: Refusal, count: usize, out: &[u8]) -> Sums {
+pub fn with_call(sums: Sums, refusal: Refusal, count: usize) -> Sums {
     let number = match refusal {
         Refusal::None => 0,
         Refusal::Profile => 1,
         Refusal::State => 2,
         Refusal::Room => 3,
+        Refusal::Lengths => 5,
     };
-    let counted = with_number(with_number(sums, number), count as u64);
-    with_bytes(counted, part(out, 0, count))
+    with_number(with_number(sums, number), count as u64)
+}
+
+pub fn added(sums: Sums, refusal: Refusal, count: usize, out: &[u8]) -> Sums {
+    with_bytes(with_call(sums, refusal, count), part(out, 0, count))
 }
 
 // The checksum of every refusal number, count and answer.

@@ -7,6 +7,18 @@ mod profile;
 mod record;
 mod sums;
 
+// For the loop of `measured_buffers`, which has whole buffers too.
+pub use calls::Order;
+pub use calls::PROFILE;
+pub use calls::RECORD;
+pub use calls::added;
+pub use calls::called;
+pub use calls::order_at;
 pub use calls::proved_calls;
+pub use calls::with_call;
 pub use lines::proved_lines;
 pub use lines::proved_rewritten;
+pub use profile::profile_at;
+pub use sums::Sums;
+pub use sums::with_bytes;
+pub use sums::with_number;

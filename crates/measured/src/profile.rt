@@ -65,7 +65,7 @@ fn text20(bytes: &[u8], at: usize) -> Text20 {
 }
 
 // The `n`-th of several.
-pub(crate) fn profile_at(profiles: &[u8], n: u32) -> Profile {
+pub fn profile_at(profiles: &[u8], n: u32) -> Profile {
     let bytes = part(profiles, n as usize * SIZE, SIZE);
     Profile {
         capacity: number_at(bytes, 0),

@@ -2,12 +2,12 @@
 use std::num::wrapping_add_u64;
 use text::byte_at;
 
-pub(crate) struct Sums {
-    pub(crate) low: u64,
-    pub(crate) high: u64,
+pub struct Sums {
+    pub low: u64,
+    pub high: u64,
 }
 
-pub(crate) fn with_number(sums: Sums, n: u64) -> Sums {
+pub fn with_number(sums: Sums, n: u64) -> Sums {
     let low = wrapping_add_u64(sums.low, n);
     Sums {
         low,
@@ -15,7 +15,7 @@ pub(crate) fn with_number(sums: Sums, n: u64) -> Sums {
     }
 }
 
-pub(crate) fn with_bytes(sums: Sums, bytes: &[u8]) -> Sums {
+pub fn with_bytes(sums: Sums, bytes: &[u8]) -> Sums {
     let mut next = sums;
     let mut i = 0;
     while i < bytes.len() {

@@ -75,9 +75,9 @@ fn play(line: &mut [u8], out: &mut [u8]) {
     }
 }
 
-// A line has up to 65,535 bytes, and the lent buffer up to 1024.
+// A line has up to 65,535 bytes, and the lent buffer up to 4,096.
 fn main() {
     let mut line = io::large_buffer();
-    let mut out = [0u8; 1024];
+    let mut out = [0u8; 4096];
     play(&mut line, &mut out);
 }

@@ -3,11 +3,15 @@ use crate::profile::with_text;
 use crate::session::Call;
 use crate::session::Session;
 use crate::session::make;
+use crate::session::make_whole;
 use crate::session::unknown;
 use crate::words::first;
+use crate::words::first_cells;
 use script::Numbers;
 use script::Order;
 use script::order_of;
+use script::put_bytes;
+use script::put_marks;
 use script::sent_byte;
 use script::with_numbers;
 use told::put_state;
@@ -51,6 +55,21 @@ fn call_bytes(
     latest
 }
 
+// The words of the line as one call. A line has fewer than 22,000 of them.
+fn call_whole(
+    session: Session,
+    line: &[u8],
+    count: usize,
+    marked: usize,
+    out: &mut [u8],
+) -> Session {
+    let mut bytes = io::large_buffer();
+    let mut marks = io::large_buffer();
+    put_bytes(line, first_cells(&mut bytes, count));
+    put_marks(line, first_cells(&mut marks, marked));
+    make_whole(session, first(&bytes, count), first(&marks, marked), out)
+}
+
 // It calls nothing.
 fn tell_state(session: Session) -> Session {
     let state = session.state;
@@ -70,6 +89,7 @@ pub fn perform(session: Session, line: &[u8], out: &mut [u8]) -> Session {
         Order::Text => set_text(session, line),
         Order::Room(room) => set_room(session, room),
         Order::Bytes(count, faulty) => call_bytes(session, line, count, faulty, out),
+        Order::Buffer(count, marked) => call_whole(session, line, count, marked, out),
         Order::Sample(load, stable) => make(session, Call::Sample(load, stable), out),
         Order::Unknown => unknown(session),
     }

@@ -1,8 +1,10 @@
 // The module with the profile and the room that are lent to it, and the calls.
 use crate::words::first;
+use device::BytesTaken;
 use device::Called;
 use device::power_on;
 use device::take_byte;
+use device::take_bytes;
 use device::take_sample;
 use lent::fill;
 use lent::is_spilt;
@@ -68,6 +70,7 @@ fn write_outcome(refusal: Refusal, count: usize, out: &[u8]) {
         Refusal::Profile => write_refused(b'1'),
         Refusal::State => write_refused(b'2'),
         Refusal::Room => write_refused(b'3'),
+        Refusal::Lengths => write_refused(b'5'),
     }
 }
 
@@ -77,6 +80,7 @@ fn is_granted(refusal: Refusal) -> bool {
         Refusal::Profile => false,
         Refusal::State => false,
         Refusal::Room => false,
+        Refusal::Lengths => false,
     }
 }
 
@@ -91,7 +95,7 @@ fn write_spilt(granted: bool, count: usize, out: &[u8], seed: u8) {
     }
 }
 
-// What the call returned is printed, and its state is the next call's.
+// The state that the call returned is the next call's.
 fn after_call(session: Session, called: Called, out: &[u8]) -> Session {
     let refusal = called.refusal;
     let state = called.state;
@@ -100,7 +104,6 @@ fn after_call(session: Session, called: Called, out: &[u8]) -> Session {
     next.state = state;
     next.on = session.on | granted;
     next.calls = std::num::wrapping_add_u8(session.calls, 1);
-    write_outcome(refusal, called.count, out);
     write_spilt(granted, called.count, out, session.calls);
     next
 }
@@ -126,5 +129,44 @@ pub fn make(session: Session, call: Call, out: &mut [u8]) -> Session {
     let state = session.state;
     fill(out, session.calls);
     let returned = called(profile, state, call, &mut out[start..room]);
+    let refusal = returned.refusal;
+    write_outcome(refusal, returned.count, out);
     after_call(session, returned, out)
+}
+
+// Fewer bytes were taken than given.
+fn write_taken(granted: bool, taken: usize, given: usize) {
+    if granted & (taken < given) {
+        io::write_all(1, b"took ");
+        io::print_decimal(1, taken as u64);
+        io::write_all(1, b"\r\n");
+    }
+}
+
+fn after_bytes(session: Session, returned: BytesTaken, given: usize, out: &[u8]) -> Session {
+    let refusal = returned.refusal;
+    let state = returned.state;
+    let count = returned.count;
+    write_outcome(refusal, count, out);
+    write_taken(is_granted(refusal), returned.taken, given);
+    let called = Called {
+        state,
+        count,
+        refusal,
+    };
+    after_call(session, called, out)
+}
+
+// One call with a whole buffer of bytes and their marks, in the same way.
+pub fn make_whole(session: Session, bytes: &[u8], marks: &[u8], out: &mut [u8]) -> Session {
+    let start = 0;
+    let room = session.room;
+    if out.len() < room {
+        return session;
+    }
+    let profile = session.profile;
+    let state = session.state;
+    fill(out, session.calls);
+    let returned = take_bytes(profile, state, bytes, marks, &mut out[start..room]);
+    after_bytes(session, returned, bytes.len(), out)
 }

@@ -18,3 +18,13 @@ pub fn first(text: &[u8], count: usize) -> &[u8] {
     }
     &text[start..count]
 }
+
+// The same of a buffer to be written.
+pub fn first_cells(cells: &mut [u8], count: usize) -> &mut [u8] {
+    let start = 0;
+    let last = cells.len();
+    if last < count {
+        return &mut cells[start..start];
+    }
+    &mut cells[start..count]
+}

@@ -1,5 +1,6 @@
 mod HexText
 mod Loads
+mod MarkedText
 mod NumberText
 mod Ordering
 mod WordText

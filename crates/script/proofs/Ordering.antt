@@ -3,7 +3,7 @@
 use mathlib.Core.Path.{_≡_, ap, _∙_}
 use mathlib.Core.Bool.{Bool, true, false, _&&_, _||_}
 use mathlib.Core.List.{List}
-use Prim.Native.Nat.{ℕ, _+_, _/_, _≤_, _<_}
+use Prim.Native.Nat.{ℕ, _+_, _-_, _/_, _≤_, _<_}
 use lib.Dec.{leb, ltb, eqb}
 use lib.ListN.{length, getD, drop}
 use borrow.Author.Tests.{eq-eqb, ne-eqb, lt-ltb, le-ltb}
@@ -15,10 +15,11 @@ use Rattle.script.specs.declared.order.Order.{Order}
 use Rattle.script.specs.declared.order.Order.the-variants as orders
 use Rattle.script.specs.declared.profile.Numbers.{Numbers}
 use Rattle.script.specs.Hex.{areHex, hexByte}
+use Rattle.script.specs.Marked.{areMarked}
 use Rattle.script.specs.Numbers.{numberOf, loadOf}
-use Rattle.script.specs.Orders.{setOrder, numbersOrder, textOrder, roomOrder, hexOrder, loadOrder, callOrder, namedOrder, orderOf, commandByte, sentByte}
+use Rattle.script.specs.Orders.{setOrder, numbersOrder, textOrder, roomOrder, hexOrder, loadOrder, callOrder, lentOrder, bufferOrder, namedOrder, orderOf, commandByte, sentByte}
 use Rattle.script.specs.Settings.{numbersIn, areNumbers, roomOf, textFits}
-use Rattle.script.specs.Words.{firstWord, afterWord}
+use Rattle.script.specs.Words.{firstWord, afterWord, spacesIn}
 
 -- ---- the room of a text, and whether it fits
 
@@ -58,11 +59,11 @@ module _ (t : List ℕ) where
     no-text e = rw (← test, e)
 
   module _ {n : ℕ} (read : n ≡ numberOf t) where
-    pub room-large : 1024 < n → orders.Unknown ≡ roomOrder t
-    room-large h = rw (← read, lt-ltb 1024 n h)
+    pub room-large : 4096 < n → orders.Unknown ≡ roomOrder t
+    room-large h = rw (← read, lt-ltb 4096 n h)
 
-    pub room-small : n ≤ 1024 → orders.Room n ≡ roomOrder t
-    room-small h = rw (← read, le-ltb 1024 n h)
+    pub room-small : n ≤ 4096 → orders.Room n ≡ roomOrder t
+    room-small h = rw (← read, le-ltb 4096 n h)
 
   module _ (faulty : Bool) {b : Bool} (test : b ≡ areHex t) where
     pub hex-read : b ≡ true → orders.Bytes (length t / 3 + 1) faulty ≡ hexOrder faulty t
@@ -112,6 +113,33 @@ module _ (l : List ℕ) {b : ℕ} {u : List ℕ} (first : b ≡ getD l 0 0) (res
     pub hex-sent : (b ≡ 62 → ⊥) → c ≡ hexByte u i → c ≡ sentByte l i
     hex-sent n sent = rw (← first, ← rest, ne-eqb b 62 n) sent
 
+-- ---- the lines that lend a whole buffer, by their first word w and n words after it
+
+module _ (l : List ℕ) (n : ℕ) {w : List ℕ} (name : w ≡ firstWord l) {a : Bool} (alike : a ≡ sameText w (ascii "w")) where
+  pub as-many : a ≡ true → orders.Buffer n n ≡ lentOrder (firstWord l) n
+  as-many e = rw (← name, ← alike, e)
+
+  module _ (not-alike : a ≡ false) {f : Bool} (fewer : f ≡ sameText w (ascii "w-")) where
+    pub none-fewer : f ≡ true → n < 1 → orders.Unknown ≡ lentOrder (firstWord l) n
+    none-fewer e h = rw (← name, ← alike, not-alike, ← fewer, e, lt-ltb n 1 h)
+
+    pub one-fewer : f ≡ true → 1 ≤ n → orders.Buffer n (n - 1) ≡ lentOrder (firstWord l) n
+    one-fewer e h = rw (← name, ← alike, not-alike, ← fewer, e, le-ltb n 1 h)
+
+    module _ (not-fewer : f ≡ false) {m : Bool} (more : m ≡ sameText w (ascii "w+")) where
+      pub one-more : m ≡ true → orders.Buffer n (n + 1) ≡ lentOrder (firstWord l) n
+      one-more e = rw (← name, ← alike, not-alike, ← fewer, not-fewer, ← more, e)
+
+      pub no-name : m ≡ false → orders.Unknown ≡ lentOrder (firstWord l) n
+      no-name e = rw (← name, ← alike, not-alike, ← fewer, not-fewer, ← more, e)
+
+module _ (l : List ℕ) {n : ℕ} {u : List ℕ} {b : Bool} (words : n ≡ spacesIn l) (rest : u ≡ afterWord l) (test : b ≡ areMarked n u) where
+  pub buffer-lent : {r : Order} → b ≡ true → r ≡ lentOrder (firstWord l) n → r ≡ bufferOrder l
+  buffer-lent e order = rw (← words, ← rest, ← test, e) order
+
+  pub no-buffer : b ≡ false → orders.Unknown ≡ bufferOrder l
+  no-buffer e = rw (← words, ← rest, ← test, e)
+
 -- ---- by the first word w; u is what follows it
 
 module _ (on : Bool) (l : List ℕ) {w u : List ℕ} (name : w ≡ firstWord l) (rest : u ≡ afterWord l) {p : Bool} (profile : p ≡ sameText w (ascii "profile")) {r : Order} where
@@ -147,9 +175,14 @@ module _ (on : Bool) (l : List ℕ) {b : ℕ} (first : b ≡ getD l 0 0) where
       pub state-line : on && q ≡ true → orders.State ≡ orderOf on l
       state-line e = rw (← first, not-passed, ← power, no-power, ← state, e)
 
-      module _ (no-state : on && q ≡ false) {i : ℕ} (at : FirstAt space l i) where
-        pub worded-line : {r : Order} → i < length l → r ≡ namedOrder on l → r ≡ orderOf on l
-        worded-line h order = order ∙ (rw (← first, not-passed, ← power, no-power, ← state, no-state, ← (at .has), lt-ltb i (length l) h))
+      module _ (no-state : on && q ≡ false) where
+        pub buffer-line : {r : Order} → on && eqb b 119 ≡ true → r ≡ bufferOrder l → r ≡ orderOf on l
+        buffer-line e order = order ∙ rw (← first, not-passed, ← power, no-power, ← state, no-state, e)
 
-        pub one-word : length l ≤ i → orders.Unknown ≡ orderOf on l
-        one-word h = rw (← first, not-passed, ← power, no-power, ← state, no-state, ← (at .has), le-ltb i (length l) h)
+        module _ (no-buffer : on && eqb b 119 ≡ false) {i : ℕ} (at : FirstAt space l i) where
+          pub worded-line : {r : Order} → i < length l → r ≡ namedOrder on l → r ≡ orderOf on l
+          worded-line h order =
+              order ∙ rw (← first, not-passed, ← power, no-power, ← state, no-state, no-buffer, ← (at .has), lt-ltb i (length l) h)
+
+          pub one-word : length l ≤ i → orders.Unknown ≡ orderOf on l
+          one-word h = rw (← first, not-passed, ← power, no-power, ← state, no-state, no-buffer, ← (at .has), le-ltb i (length l) h)

@@ -1,4 +1,5 @@
 pub mod Hex
+pub mod Marked
 pub mod Numbers
 pub mod Orders
 pub mod Settings

@@ -1,6 +1,6 @@
 -- What a line of the script asks for. The README has its words.
 -- Assumes nothing.
-use Prim.Native.Nat.{ℕ, _+_, _/_}
+use Prim.Native.Nat.{ℕ, _+_, _-_, _/_}
 use mathlib.Core.Bool.{Bool, true, false, cond, _&&_, _||_}
 use mathlib.Core.List.{List}
 use lib.Dec.{ltb, eqb}
@@ -11,12 +11,13 @@ use Rattle.text.specs.Searching.{hasByte}
 use Rattle.script.specs.declared.number.LoadRead.{LoadRead}
 use Rattle.script.specs.declared.number.LoadRead.the-variants.{Within, Beyond}
 use Rattle.script.specs.declared.order.Order.{Order}
-use Rattle.script.specs.declared.order.Order.the-variants.{Nothing, On, State, Numbers, Text, Room, Bytes, Sample, Unknown}
+use Rattle.script.specs.declared.order.Order.the-variants.{Nothing, On, State, Numbers, Text, Room, Bytes, Buffer, Sample, Unknown}
 use Rattle.script.specs.declared.profile.Numbers as fields
 use Rattle.script.specs.Hex.{areHex, hexByte}
+use Rattle.script.specs.Marked.{areMarked}
 use Rattle.script.specs.Numbers.{numberOf, loadOf}
 use Rattle.script.specs.Settings.{numbersIn, areNumbers, textFits}
-use Rattle.script.specs.Words.{firstWord, afterWord}
+use Rattle.script.specs.Words.{firstWord, afterWord, spacesIn}
 
 -- ---- the lines that set
 
@@ -30,7 +31,7 @@ abbrev pub textOrder : List ℕ → Order
 textOrder rest = cond (textFits rest) Text Unknown
 
 abbrev pub roomOrder : List ℕ → Order
-roomOrder rest = cond (ltb 1024 (numberOf rest)) Unknown (Room (numberOf rest))
+roomOrder rest = cond (ltb 4096 (numberOf rest)) Unknown (Room (numberOf rest))
 
 -- ---- the lines that call a module that is on: a letter, a space and the rest
 
@@ -51,6 +52,19 @@ callOrder l =
     (cond (eqb (getD l 0 0) 115) (loadOrder true (loadOf (drop 2 l)))
     (cond (eqb (getD l 0 0) 117) (loadOrder false (loadOf (drop 2 l))) Unknown))))
 
+-- ---- the lines that lend a module that is on a whole buffer: w, w- or w+, and a word a byte
+
+-- as many marks as n bytes, one fewer or one more
+abbrev pub lentOrder : List ℕ → ℕ → Order
+lentOrder name n =
+    cond (sameText name (ascii "w")) (Buffer n n)
+    (cond (sameText name (ascii "w-")) (cond (ltb n 1) Unknown (Buffer n (n - 1)))
+    (cond (sameText name (ascii "w+")) (Buffer n (n + 1)) Unknown))
+
+-- a line without a space has no bytes
+abbrev pub bufferOrder : List ℕ → Order
+bufferOrder l = cond (areMarked (spacesIn l) (afterWord l)) (lentOrder (firstWord l) (spacesIn l)) Unknown
+
 -- ---- any line
 
 -- by its first word
@@ -65,13 +79,14 @@ namedOrder on l =
 abbrev pub isPassedOver : List ℕ → Bool
 isPassedOver l = ltb (length l) 1 || eqb (getD l 0 0) 35
 
--- on: whether a power-on was granted
+-- on: whether a power-on was granted. 119 is "w", with which no other line that calls or sets begins
 abbrev pub orderOf : Bool → List ℕ → Order
 orderOf on l =
     cond (isPassedOver l) Nothing
     (cond (sameText l (ascii "on")) On
     (cond (on && sameText l (ascii "state")) State
-    (cond (hasByte space l) (namedOrder on l) Unknown)))
+    (cond (on && eqb (getD l 0 0) 119) (bufferOrder l)
+    (cond (hasByte space l) (namedOrder on l) Unknown))))
 
 -- ---- the bytes that a line of b, f or > sends
 

@@ -14,12 +14,12 @@ use Rattle.weight.specs.Characters.{space}
 use Rattle.text.specs.UnitTexts.{unitNamed}
 use Rattle.script.specs.declared.profile.Numbers.{Numbers}
 use Rattle.script.specs.Numbers.{numberOf}
-use Rattle.script.specs.Words.{firstWord, afterWords}
+use Rattle.script.specs.Words.{afterWords, wordAt}
 
 -- ---- the numbers
 
 abbrev pub numberAt : ℕ → List ℕ → ℕ
-numberAt n t = numberOf (firstWord (afterWords n t))
+numberAt n t = numberOf (wordAt n t)
 
 -- C, U, R, W, the unit, D and K; the last is all that is left
 abbrev pub numbersIn : List ℕ → Numbers
@@ -29,7 +29,7 @@ numbersIn t =
       underload = numberAt 1 t;
       zeroing = numberAt 2 t;
       timeout = numberAt 3 t;
-      unit = unitNamed (firstWord (afterWords 4 t));
+      unit = unitNamed (wordAt 4 t);
       decimals = numberAt 5 t;
       step = numberOf (afterWords 6 t);
     }

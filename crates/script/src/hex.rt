@@ -4,7 +4,7 @@ ghost use Rattle.script.specs.Hex.{hexDigit, canStand, areHex, twoDigits
 use text::byte_at;
 
 // 16 for a byte that is no such digit.
-fn digit(byte: u8) -> u8
+pub fn digit(byte: u8) -> u8
     ensures { λ r. ⌜ r ≡ hexDigit byte ⌝ }
 {
     match byte {

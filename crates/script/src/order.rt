@@ -1,8 +1,12 @@
 // What a line of the script asks for. It is judged whole before anything is set or called.
 ghost use mathlib.Core.Path.{_≡_};
-ghost use Rattle.script.specs.Orders.{numbersOrder, textOrder, roomOrder, hexOrder, loadOrder, callOrder, namedOrder, orderOf, commandByte, sentByte};
+ghost use Prim.Native.Nat.{_≤_};
+ghost use lib.ListN.{length};
+ghost use Rattle.script.specs.Orders.{numbersOrder, textOrder, roomOrder, hexOrder, loadOrder, callOrder, lentOrder, bufferOrder, namedOrder, orderOf, commandByte, sentByte};
+ghost use Rattle.script.specs.Words.{firstWord};
 use crate::hex::are_bytes;
 use crate::hex::hex_byte;
+use crate::marked::are_marked;
 use crate::number::LoadRead;
 use crate::number::load_of;
 use crate::number::number;
@@ -13,12 +17,13 @@ use crate::profile::text_fits;
 use crate::words::after_word;
 use crate::words::first_word;
 use crate::words::from;
+use crate::words::spaces_in;
 use text::byte_at;
 use text::first_at;
 use text::same_text;
 use weight::Load;
 
-const LARGEST_ROOM: u64 = 1024;
+const LARGEST_ROOM: u64 = 4096;
 
 pub enum Order {
     // An empty line or a comment.
@@ -34,6 +39,8 @@ pub enum Order {
     Room(usize),
     // How many bytes, and whether they are marked faulty.
     Bytes(usize, bool),
+    // How many bytes a whole-buffer call lends, and how many marks.
+    Buffer(usize, usize),
     // A load, and whether it is marked stable.
     Sample(Load, bool),
     Unknown,
@@ -103,6 +110,38 @@ fn call_order(line: &[u8]) -> Order
     }
 }
 
+// By its first word: as many marks as bytes, one fewer or one more.
+fn lent_order(line: &[u8], count: usize) -> Order
+    requires { ⌜ count ≤ length (now line) ⌝ }
+    ensures { λ r. ⌜ r ≡ lentOrder (firstWord (now (line .entry))) count ⌝ }
+{
+    let name = first_word(line);
+    if same_text(name, b"w") {
+        return Order::Buffer(count, count);
+    }
+    if same_text(name, b"w-") {
+        if count < 1 {
+            return Order::Unknown;
+        }
+        return Order::Buffer(count, count - 1);
+    }
+    if same_text(name, b"w+") {
+        return Order::Buffer(count, count + 1);
+    }
+    Order::Unknown
+}
+
+// Each word after the first is a byte.
+fn buffer_order(line: &[u8]) -> Order
+    ensures { λ r. ⌜ r ≡ bufferOrder (now (line .entry)) ⌝ }
+{
+    let count = spaces_in(line);
+    if are_marked(after_word(line), count) {
+        return lent_order(line, count);
+    }
+    Order::Unknown
+}
+
 // By its first word.
 fn named_order(on: bool, line: &[u8]) -> Order
     ensures { λ r. ⌜ r ≡ namedOrder on (now (line .entry)) ⌝ }
@@ -128,7 +167,8 @@ fn named_order(on: bool, line: &[u8]) -> Order
 pub fn order_of(on: bool, line: &[u8]) -> Order
     ensures { λ r. ⌜ r ≡ orderOf on (now (line .entry)) ⌝ }
 {
-    if (line.len() < 1) | (byte_at(line, 0) == b'#') {
+    let first = byte_at(line, 0);
+    if (line.len() < 1) | (first == b'#') {
         return Order::Nothing;
     }
     if same_text(line, b"on") {
@@ -136,6 +176,9 @@ pub fn order_of(on: bool, line: &[u8]) -> Order
     }
     if on & same_text(line, b"state") {
         return Order::State;
+    }
+    if on & (first == b'w') {
+        return buffer_order(line);
     }
     if first_at(line, b' ') < line.len() {
         return named_order(on, line);

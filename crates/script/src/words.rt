@@ -1,7 +1,8 @@
 // The words of a line, with one space between them. Past the end there are none.
 ghost use mathlib.Core.Path.{_≡_};
-ghost use lib.ListN.{drop};
-ghost use Rattle.script.specs.Words.{firstWord, afterWord};
+ghost use Prim.Native.Nat.{_≤_};
+ghost use lib.ListN.{drop, length};
+ghost use Rattle.script.specs.Words.{firstWord, afterWord, spacesIn};
 use text::first_at;
 
 // Everything from `start` on.
@@ -31,4 +32,21 @@ pub fn after_word(text: &[u8]) -> &[u8]
         return from(text, space + 1);
     }
     from(text, space)
+}
+
+// As many words follow the first.
+pub fn spaces_in(text: &[u8]) -> usize
+    ensures { λ r. ⌜ r ≡ spacesIn (now (text .entry)) ⌝ }
+    ensures { λ r. ⌜ r ≤ length (now (text .entry)) ⌝ }
+{
+    let mut count: usize = 0;
+    let mut i = 0;
+    while i < text.len() {
+        let byte = text[i];
+        i += 1;
+        if byte == b' ' {
+            count += 1;
+        }
+    }
+    count
 }

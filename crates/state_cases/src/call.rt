@@ -1,13 +1,16 @@
 // One call with a constructed state, and what is said of it. The buffer is filled before, so that what the call writes is seen.
+use device::BytesTaken;
 use device::Called;
 use device::power_on;
 use device::take_byte;
+use device::take_bytes;
 use device::take_sample;
 use lent::fill;
 use lent::is_spilt;
 use model::Profile;
 use model::Refusal;
 use model::State;
+use model::start_state;
 use profiles::profile_a;
 use weight::Load;
 
@@ -17,6 +20,7 @@ fn number_of(refusal: Refusal) -> u8 {
         Refusal::Profile => b'1',
         Refusal::State => b'2',
         Refusal::Room => b'3',
+        Refusal::Lengths => b'5',
     }
 }
 
@@ -47,21 +51,25 @@ fn seen(called: Called, seed: u8, out: &[u8]) -> Tried {
 }
 
 // The same call twice: what it writes is not as before in one of the two buffers, which differ in every byte.
-fn say(label: &[u8], first: Tried, second: Tried) {
+fn say_kept(label: &[u8], first: Tried, second: Tried) {
     io::write_all(1, label);
     let number = [first.number];
     io::write_all(1, &number);
     if first.spilt | second.spilt {
-        io::write_all(1, b" spilt\n");
+        io::write_all(1, b" spilt");
         return;
     }
     if first.count == 0 {
-        io::write_all(1, b" kept\n");
+        io::write_all(1, b" kept");
         return;
     }
     if first.number == b'0' {
         io::write_all(1, b" rest kept");
     }
+}
+
+fn say(label: &[u8], first: Tried, second: Tried) {
+    say_kept(label, first, second);
     io::write_all(1, b"\n");
 }
 
@@ -75,6 +83,16 @@ fn send_byte(state: State, seed: u8) -> Tried {
 // A byte that ends no line, with a state.
 pub fn try_state(label: &[u8], state: State) {
     say(label, send_byte(state, 1), send_byte(state, 2));
+}
+
+// The first `count` bytes; all of them where there are fewer.
+fn first(text: &[u8], count: usize) -> &[u8] {
+    let start = 0;
+    let all = text.len();
+    if all < count {
+        return &text[start..all];
+    }
+    &text[start..count]
 }
 
 // The part of a buffer that is lent.
@@ -116,5 +134,74 @@ pub fn try_room(label: &[u8], profile: Profile, state: State, room: usize) {
         label,
         switch_on(profile, state, room, 1),
         switch_on(profile, state, room, 2),
+    );
+}
+
+// What came of a whole-buffer call.
+struct TriedBytes {
+    tried: Tried,
+    taken: usize,
+}
+
+fn seen_bytes(returned: BytesTaken, seed: u8, out: &[u8]) -> TriedBytes {
+    let state = returned.state;
+    let refusal = returned.refusal;
+    let called = Called {
+        state,
+        count: returned.count,
+        refusal,
+    };
+    TriedBytes {
+        tried: seen(called, seed, out),
+        taken: returned.taken,
+    }
+}
+
+fn say_bytes(label: &[u8], first: TriedBytes, second: TriedBytes) {
+    let one = first.tried;
+    let other = second.tried;
+    say_kept(label, one, other);
+    io::write_all(1, b", ");
+    io::print_decimal(1, first.taken as u64);
+    io::write_all(1, b" taken, ");
+    io::print_decimal(1, one.count as u64);
+    io::write_all(1, b" counted\n");
+}
+
+fn send_bytes(
+    profile: Profile,
+    state: State,
+    bytes: &[u8],
+    marks: &[u8],
+    room: usize,
+    seed: u8,
+) -> TriedBytes {
+    let mut out = [0u8; 256];
+    fill(&mut out, seed);
+    let returned = take_bytes(profile, state, bytes, marks, lend(&mut out, room));
+    seen_bytes(returned, seed, &out)
+}
+
+// A text whose bytes are all good, with a room.
+pub fn try_text(label: &[u8], text: &[u8], room: usize) {
+    let marks = [0u8; 256];
+    let good = first(&marks, text.len());
+    say_bytes(
+        label,
+        send_bytes(profile_a(), start_state(), text, good, room, 1),
+        send_bytes(profile_a(), start_state(), text, good, room, 2),
+    );
+}
+
+// So many bytes that end no line and so many marks, with no room.
+pub fn try_lengths(label: &[u8], profile: Profile, state: State, count: usize, marked: usize) {
+    let bytes = [b'S'; 4097];
+    let marks = [0u8; 4097];
+    let sent = first(&bytes, count);
+    let good = first(&marks, marked);
+    say_bytes(
+        label,
+        send_bytes(profile, state, sent, good, 0, 1),
+        send_bytes(profile, state, sent, good, 0, 2),
     );
 }

@@ -1,6 +1,7 @@
 // Constructed states that no script of calls can reach, one for each case of refusal 2 at its limit and past it, the order of the
-// refusals, and samples with too little room. Each line says what was built and the refusal number of the call. `kept` says that the
-// whole buffer is as before and nothing is counted, `rest kept` that every byte past the answer is as before, `spilt` that one is not.
+// refusals, samples with too little room, and the lengths of whole buffers. Each line says what was built and the refusal number of the
+// call. `kept` says that the whole buffer is as before and nothing is counted, `rest kept` that every byte past the answer is as before,
+// `spilt` that one is not; of a whole buffer, how many bytes were taken and how many bytes the answers have.
 mod build;
 mod call;
 
@@ -13,9 +14,11 @@ use build::repeated;
 use build::tared;
 use build::waited;
 use build::zeroed;
+use call::try_lengths;
 use call::try_room;
 use call::try_sample;
 use call::try_state;
+use call::try_text;
 use model::Pending;
 use model::start_state;
 use profiles::profile_a;
@@ -166,6 +169,60 @@ fn orders() {
     );
 }
 
+// First that applies: profile, state, lengths.
+fn refused_buffers() {
+    let mut refused = profile_a();
+    refused.capacity = 0;
+    try_lengths(b"1 byte, profile refused: ", refused, start_state(), 1, 1);
+    try_lengths(
+        b"1 byte and no mark, profile and state refused: ",
+        refused,
+        held(65),
+        1,
+        0,
+    );
+    try_lengths(b"1 byte, state refused: ", profile_a(), held(65), 1, 1);
+    try_lengths(
+        b"1 byte and no mark, state refused: ",
+        profile_a(),
+        held(65),
+        1,
+        0,
+    );
+    try_lengths(
+        b"4097 bytes, state refused: ",
+        profile_a(),
+        held(65),
+        4097,
+        4097,
+    );
+}
+
+fn lengths() {
+    let state = start_state();
+    try_lengths(b"1 byte and no mark: ", profile_a(), state, 1, 0);
+    try_lengths(b"no byte and 1 mark: ", profile_a(), state, 0, 1);
+    try_lengths(b"4097 bytes: ", profile_a(), state, 4097, 4097);
+    try_lengths(
+        b"4096 bytes and 4097 marks: ",
+        profile_a(),
+        state,
+        4096,
+        4097,
+    );
+    try_lengths(b"no byte, no room: ", profile_a(), state, 0, 0);
+    try_lengths(b"4096 bytes, no room: ", profile_a(), state, 4096, 4096);
+}
+
+// Without a sample SI is answered by five bytes.
+fn rooms() {
+    try_text(b"SI twice, room 4: ", b"SI\r\nSI\r\n", 4);
+    try_text(b"SI twice, room 5: ", b"SI\r\nSI\r\n", 5);
+    try_text(b"SI twice, room 9: ", b"SI\r\nSI\r\n", 9);
+    try_text(b"SI twice, room 10: ", b"SI\r\nSI\r\n", 10);
+    try_text(b"SI twice, room 256: ", b"SI\r\nSI\r\n", 256);
+}
+
 fn main() {
     weighings();
     lines();
@@ -176,4 +233,7 @@ fn main() {
     samples();
     changed_samples();
     orders();
+    refused_buffers();
+    lengths();
+    rooms();
 }

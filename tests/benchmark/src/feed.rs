@@ -1,7 +1,7 @@
 //! The loops of the crate `measured` again, for the Rust implementations: the same records, the same checks, the same checksum.
 
 /// The bytes of a record of a call: what is called, the mark, the room lent (low byte first), and four bytes with the received
-/// byte, the load or the place of a profile.
+/// byte, the load, the place of a profile or the size of a whole buffer.
 pub const CALL: usize = 8;
 
 /// The bytes of a record of a line: its length, and the line.
@@ -11,12 +11,29 @@ pub const BYTE: u8 = 0;
 pub const SAMPLE: u8 = 1;
 pub const POWER_ON: u8 = 2;
 pub const PROFILE: u8 = 3;
+/// Among whole buffers alone.
+pub const BUFFER: u8 = 4;
 
 /// The refusal number, 0 for none, and the length of the answer.
 #[derive(Clone, Copy, Debug, PartialEq, Eq)]
 pub struct Outcome {
     pub refusal: u8,
     pub count: usize,
+}
+
+/// The same of a whole-buffer call, and the bytes taken.
+#[derive(Clone, Copy, Debug, PartialEq, Eq)]
+pub struct Taken {
+    pub refusal: u8,
+    pub count: usize,
+    pub taken: usize,
+}
+
+/// The bytes of all whole buffers of a script, one after another, and their marks.
+#[derive(Clone, Copy)]
+pub struct Received<'a> {
+    pub bytes: &'a [u8],
+    pub marks: &'a [u8],
 }
 
 /// What the checksum takes of a line: kind, command, status and decimals; the unit's nanograms; the text's length; the value.
@@ -40,6 +57,7 @@ pub trait Implementation {
     fn power_on(profile: &Self::Profile, state: &mut Self::State, out: &mut [u8]) -> Outcome;
     fn byte(profile: &Self::Profile, state: &mut Self::State, byte: u8, faulty: bool, out: &mut [u8]) -> Outcome;
     fn sample(profile: &Self::Profile, state: &mut Self::State, load: i32, stable: bool, out: &mut [u8]) -> Outcome;
+    fn take_bytes(profile: &Self::Profile, state: &mut Self::State, bytes: &[u8], marks: &[u8], out: &mut [u8]) -> Taken;
 
     /// None is refusal 4.
     fn read(line: &[u8]) -> Option<Self::Answer<'_>>;
@@ -65,6 +83,19 @@ impl Sums {
             self.add(u64::from(byte));
         }
     }
+
+    fn add_call(&mut self, outcome: Outcome, out: &[u8]) {
+        self.add(outcome.refusal.into());
+        self.add(outcome.count as u64);
+        self.add_bytes(part(out, 0, outcome.count));
+    }
+
+    fn add_taken(&mut self, taken: Taken, out: &[u8]) {
+        self.add(taken.refusal.into());
+        self.add(taken.count as u64);
+        self.add(taken.taken as u64);
+        self.add_bytes(part(out, 0, taken.count));
+    }
 }
 
 /// At most `count` bytes from `start` on.
@@ -80,11 +111,15 @@ pub fn profile_in<I: Implementation>(profiles: &[u8], record: &[u8; CALL]) -> Op
     (kind == PROFILE).then(|| I::profile(profiles, u32::from_le_bytes(data)))
 }
 
+fn lent_for<'a>(record: &[u8; CALL], out: &'a mut [u8]) -> &'a mut [u8] {
+    let room = usize::from(u16::from_le_bytes([record[2], record[3]])).min(out.len());
+    &mut out[..room]
+}
+
 #[inline(always)]
 pub fn call<I: Implementation>(profile: &I::Profile, state: &mut I::State, record: &[u8; CALL], out: &mut [u8]) -> Outcome {
-    let [kind, mark, low, high, data @ ..] = *record;
-    let room = usize::from(u16::from_le_bytes([low, high])).min(out.len());
-    let lent = &mut out[..room];
+    let [kind, mark, _, _, data @ ..] = *record;
+    let lent = lent_for(record, out);
     match kind {
         BYTE => I::byte(profile, state, data[0], mark != 0, lent),
         SAMPLE => I::sample(profile, state, i32::from_le_bytes(data), mark != 0, lent),
@@ -105,9 +140,48 @@ pub fn calls<I: Implementation>(profiles: &[u8], script: &[u8], out: &mut [u8]) 
             continue;
         }
         let outcome = call::<I>(&profile, &mut state, record, out);
-        sums.add(outcome.refusal.into());
-        sums.add(outcome.count as u64);
-        sums.add_bytes(part(out, 0, outcome.count));
+        sums.add_call(outcome, out);
+    }
+    sums.high
+}
+
+/// A whole buffer: the next bytes and their marks, as far as these reach. The place moves on by the size that the record says.
+#[inline(always)]
+pub fn take<I: Implementation>(
+    profile: &I::Profile,
+    state: &mut I::State,
+    record: &[u8; CALL],
+    received: Received,
+    at: &mut u64,
+    out: &mut [u8],
+) -> Taken {
+    let [_, _, _, _, data @ ..] = *record;
+    let (place, size) = (*at as usize, u32::from_le_bytes(data));
+    *at = at.wrapping_add(size.into());
+    let next = |all| part(all, place, size as usize);
+    I::take_bytes(profile, state, next(received.bytes), next(received.marks), lent_for(record, out))
+}
+
+/// The checksum of every refusal number, count and answer, and of the bytes that a whole-buffer call took.
+#[inline(always)]
+pub fn buffers<I: Implementation>(profiles: &[u8], script: &[u8], received: Received, out: &mut [u8]) -> u64 {
+    let mut profile = I::profile(profiles, 0);
+    let mut state = I::start();
+    let mut sums = Sums::default();
+    let mut at = 0;
+    for record in script.chunks_exact(CALL) {
+        let Ok(record) = record.try_into() else { continue };
+        if let Some(next) = profile_in::<I>(profiles, record) {
+            profile = next;
+            continue;
+        }
+        if record[0] == BUFFER {
+            let taken = take::<I>(&profile, &mut state, record, received, &mut at, out);
+            sums.add_taken(taken, out);
+            continue;
+        }
+        let outcome = call::<I>(&profile, &mut state, record, out);
+        sums.add_call(outcome, out);
     }
     sums.high
 }

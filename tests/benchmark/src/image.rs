@@ -1,7 +1,7 @@
 //! Inputs for the Cortex-M0 of tests/cortex-m0, as it finds them in its flash, and what the proved code on this machine makes of them.
 
-use crate::linked::{proved_calls, proved_lines, proved_rewritten};
-use crate::rows::{rows, Input};
+use crate::linked::{proved_buffers, proved_calls, proved_lines, proved_rewritten};
+use crate::rows::{rows_on_board, Input};
 use crate::workload::*;
 use std::fs;
 use std::io;
@@ -10,11 +10,12 @@ use std::path::Path;
 /// The flash of the board has 192 KB for it.
 const ROOM: usize = 192 * 1024;
 
-/// What is asked for; a random history asks for the first three.
+/// What is asked for; a random history asks for the first three, or for whole buffers.
 const CALLS: u32 = 1;
 const LINES: u32 = 2;
 const REWRITTEN: u32 = 4;
 const ANSWERS: u32 = 8;
+const BUFFERS: u32 = 16;
 
 /// The small count of a row; ten times that fits.
 pub const FEW: usize = 5;
@@ -28,6 +29,7 @@ struct Image {
     profiles: Vec<u8>,
     calls: Script,
     lines: Vec<u8>,
+    buffers: Buffers,
 }
 
 impl Image {
@@ -48,20 +50,29 @@ impl Image {
         let mut rng = Rng::new(seed);
         let profiles = any_profiles(&mut rng, 40);
         let calls = any_history(&mut rng, 40, 15_000);
-        Image { what: CALLS | LINES | REWRITTEN, profiles, calls, lines: lines(&any_lines(&mut rng, 800)) }
+        Image { what: CALLS | LINES | REWRITTEN, profiles, calls, lines: lines(&any_lines(&mut rng, 800)), ..Image::default() }
+    }
+
+    fn random_buffers(seed: u64) -> Image {
+        let mut rng = Rng::new(seed);
+        let profiles = any_profiles(&mut rng, 40);
+        let buffers = any_buffers(&mut rng, 40, 10_000, 45_000);
+        Image { what: BUFFERS, profiles, buffers, ..Image::default() }
     }
 
     fn of(input: Input) -> Image {
         match input {
+            Input::Buffers(profiles, buffers) => Image { what: BUFFERS, profiles, buffers, ..Image::default() },
             Input::Calls(profiles, calls) => Image { what: CALLS, profiles, calls, ..Image::default() },
             Input::Lines(lines) => Image { what: LINES, lines, ..Image::default() },
             Input::Rewritten(lines) => Image { what: REWRITTEN, lines, ..Image::default() },
         }
     }
 
-    /// What is asked for and the three sizes, then the three parts.
+    /// What is asked for and the six sizes, then the six parts.
     fn bytes(&self) -> Vec<u8> {
-        let parts = [&self.profiles, &self.calls.0, &self.lines];
+        let Buffers { script, bytes, marks } = &self.buffers;
+        let parts = [&self.profiles, &self.calls.0, &self.lines, &script.0, bytes, marks];
         let sizes = parts.map(|part| (part.len() as u32).to_le_bytes());
         [&self.what.to_le_bytes()[..], &sizes.concat(), &parts.map(Vec::as_slice).concat()].concat()
     }
@@ -71,7 +82,7 @@ impl Image {
         if self.what == ANSWERS {
             return EXAMPLE.to_string();
         }
-        let mut out = [0; 256];
+        let mut out = [0; BOARD_LENT];
         let mut values = 0;
         let mut text = String::new();
         let mut tell = |name: &str, number: u64| text.push_str(&format!("{name} {number:016x}\n"));
@@ -84,6 +95,10 @@ impl Image {
         }
         if self.what & REWRITTEN != 0 {
             tell("rewritten", proved_rewritten(&self.lines, &mut out));
+        }
+        if self.what & BUFFERS != 0 {
+            let Buffers { script, .. } = &self.buffers;
+            tell("buffers", proved_buffers(&self.profiles, &script.0, self.buffers.received(), &mut out));
         }
         text
     }
@@ -98,15 +113,18 @@ impl Image {
     }
 }
 
-/// The example, and so many random histories of 15,000 calls and 800 lines.
+/// The example, and so many random histories of 15,000 calls and 800 lines, and of 10,000 calls with whole buffers among them.
 pub fn write_histories(folder: &Path, count: u64) -> io::Result<()> {
     Image::example().write(&folder.join("example"))?;
-    (1..=count).try_for_each(|seed| Image::random(seed).write(&folder.join(format!("random-{seed:03}"))))
+    (1..=count).try_for_each(|seed| {
+        Image::random(seed).write(&folder.join(format!("random-{seed:03}")))?;
+        Image::random_buffers(seed).write(&folder.join(format!("buffers-{seed:03}")))
+    })
 }
 
 /// Each row at its small count and at ten times that.
 pub fn write_rows(folder: &Path) -> io::Result<()> {
-    for (place, row) in rows().iter().enumerate() {
+    for (place, row) in rows_on_board().iter().enumerate() {
         for count in [FEW, 10 * FEW] {
             Image::of((row.input)(count)).write(&folder.join(format!("row-{place:02}-{count:02}")))?;
         }

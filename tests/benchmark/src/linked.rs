@@ -1,5 +1,7 @@
 //! The functions of the crate `measured`. A slice passes as a pointer and a length.
 
+use crate::feed::Received;
+
 mod symbols {
     extern "C" {
         pub fn proved_calls(
@@ -10,16 +12,46 @@ mod symbols {
             out: *mut u8,
             out_len: usize,
         ) -> u64;
+        pub fn proved_buffers(
+            profiles: *const u8,
+            profiles_len: usize,
+            script: *const u8,
+            script_len: usize,
+            bytes: *const u8,
+            bytes_len: usize,
+            marks: *const u8,
+            marks_len: usize,
+            out: *mut u8,
+            out_len: usize,
+        ) -> u64;
         pub fn proved_lines(lines: *const u8, lines_len: usize, values: *mut i64) -> u64;
         pub fn proved_rewritten(lines: *const u8, lines_len: usize, out: *mut u8, out_len: usize) -> u64;
     }
 }
 
-// SAFETY of the three: each pointer is that of a slice with the length beside it, and the functions have no `requires`.
+// SAFETY of the four: each pointer is that of a slice with the length beside it, and the functions have no `requires`.
 
 pub fn proved_calls(profiles: &[u8], script: &[u8], out: &mut [u8]) -> u64 {
     unsafe {
         symbols::proved_calls(profiles.as_ptr(), profiles.len(), script.as_ptr(), script.len(), out.as_mut_ptr(), out.len())
+    }
+}
+
+pub fn proved_buffers(profiles: &[u8], script: &[u8], received: Received, out: &mut [u8]) -> u64 {
+    let Received { bytes, marks } = received;
+    unsafe {
+        symbols::proved_buffers(
+            profiles.as_ptr(),
+            profiles.len(),
+            script.as_ptr(),
+            script.len(),
+            bytes.as_ptr(),
+            bytes.len(),
+            marks.as_ptr(),
+            marks.len(),
+            out.as_mut_ptr(),
+            out.len(),
+        )
     }
 }
 

@@ -14,15 +14,16 @@ mod tables;
 
 use benchmark::image::{write_histories, write_rows};
 use benchmark::rows::{rows, run, Input, Side, SIDES, SMALL};
-use benchmark::workload::{any_history, any_lines, any_profiles, lines, Rng};
+use benchmark::workload::{any_buffers, any_history, any_lines, any_profiles, lines, Rng};
 
 /// All sides give the same checksums, on random histories and lines and on the inputs that are measured.
 fn compare() -> usize {
     let mut rng = Rng::new(1);
     let profiles = any_profiles(&mut rng, 64);
-    let history = Input::Calls(profiles, any_history(&mut rng, 64, 1_000_000));
+    let history = Input::Calls(profiles.clone(), any_history(&mut rng, 64, 1_000_000));
     let all = lines(&any_lines(&mut rng, 100_000));
-    let random = [history, Input::Lines(all.clone()), Input::Rewritten(all)];
+    let buffers = Input::Buffers(profiles, any_buffers(&mut rng, 64, 500_000, usize::MAX));
+    let random = [history, Input::Lines(all.clone()), Input::Rewritten(all), buffers];
     let measured = rows().into_iter().map(|row| (row.input)(3));
     let mut compared = 0;
     for input in random.into_iter().chain(measured) {

@@ -1,8 +1,9 @@
 //! The rows of the tables: inputs that grow with a count.
 
-use crate::linked::{proved_calls, proved_lines, proved_rewritten};
+use crate::linked::{proved_buffers, proved_calls, proved_lines, proved_rewritten};
 use crate::sides::*;
 use crate::workload::*;
+use std::sync::Mutex;
 
 #[derive(Clone, Copy, PartialEq)]
 pub enum Side {
@@ -32,6 +33,7 @@ pub const SMALL: usize = 10;
 
 pub enum Input {
     Calls(Vec<u8>, Script),
+    Buffers(Vec<u8>, Buffers),
     Lines(Vec<u8>),
     Rewritten(Vec<u8>),
 }
@@ -42,7 +44,22 @@ pub struct Row {
     pub units: usize,
     /// What goes with each count and is taken off: the name of the row that measures it.
     pub less: Option<&'static str>,
+    /// Input and answers fit on the board of tests/cortex-m0.
+    pub fits_board: bool,
     pub input: Box<dyn Fn(usize) -> Input>,
+}
+
+/// What whole buffers are lent: outside of the stack and the heap, which are measured.
+static OUT: Mutex<[u8; LENT]> = Mutex::new([0; LENT]);
+
+fn run_buffers(side: Side, profiles: &[u8], all: &Buffers) -> u64 {
+    let mut lent = OUT.lock().expect("nothing else lends it");
+    let (script, received, out) = (&all.script.0, all.received(), &mut lent[..]);
+    match side {
+        Side::Proved => proved_buffers(profiles, script, received, out),
+        Side::Independent => independent_buffers(profiles, script, received, out),
+        Side::Fast => fast_buffers(profiles, script, received, out),
+    }
 }
 
 /// The checksums that one side makes of an input. Callgrind writes what it counted when this returns.
@@ -51,6 +68,7 @@ pub fn run(side: Side, input: &Input) -> (u64, i64) {
     let mut out = [0; 256];
     let mut values = 0;
     let sum = match (side, input) {
+        (_, Input::Buffers(profiles, all)) => run_buffers(side, profiles, all),
         (Side::Proved, Input::Calls(profiles, script)) => proved_calls(profiles, &script.0, &mut out),
         (Side::Independent, Input::Calls(profiles, script)) => independent_calls(profiles, &script.0, &mut out),
         (Side::Fast, Input::Calls(profiles, script)) => fast_calls(profiles, &script.0, &mut out),
@@ -65,7 +83,7 @@ pub fn run(side: Side, input: &Input) -> (u64, i64) {
 }
 
 fn row(name: &str, units: usize, input: impl Fn(usize) -> Input + 'static) -> Row {
-    Row { name: name.to_string(), units, less: None, input: Box::new(input) }
+    Row { name: name.to_string(), units, less: None, fits_board: true, input: Box::new(input) }
 }
 
 fn script(fill: impl Fn(&mut Script)) -> Script {
@@ -113,14 +131,44 @@ fn inner_bytes(name: &str, profile: Vec<u8>, less: &'static str, before: fn(&mut
     Row { less: Some(less), ..row(name, 60, input) }
 }
 
-/// The first three are the rows whose ratio is judged; their speed and growth are measured too, and those of the fourth.
+/// The bytes of all commands, as often at each count as fills a buffer.
+fn buffers(size: usize) -> Row {
+    let body = mixed_bytes();
+    let times = size.div_ceil(body.len());
+    let units = times * body.len();
+    let input = move |count| Input::Buffers(profile_a(), in_buffers(size, times * count, &body));
+    Row { fits_board: size < 4_096, ..row(&format!("bytes, all commands, in buffers of {}", told(size)), units, input) }
+}
+
+/// Bytes that end no line; the power-ons between them are taken off.
+fn ending_none(size: usize) -> Row {
+    let input = move |count| Input::Buffers(profile_a(), inner_buffers(size, count));
+    let name = format!("byte that ends no line, in a buffer of {}", told(size));
+    Row { less: Some(POWER_ON), fits_board: size < 4_096, ..row(&name, size, input) }
+}
+
+fn told(size: usize) -> String {
+    if size < 1_000 {
+        return size.to_string();
+    }
+    format!("{},{:03}", size / 1_000, size % 1_000)
+}
+
+/// The first three are the rows whose ratio is judged; their speed and growth are measured too, and those of the next two.
 pub fn rows() -> Vec<Row> {
     let bytes = mixed_bytes();
+    let [short, middle, long] = SIZES;
     vec![
         calls("bytes, all commands", bytes.len(), bytes),
         row("samples, idle and repetition", 200, |count| Input::Calls(profile_a(), mixed_samples(100 * count))),
         reads("lines read, all forms", mixed_lines()),
         rewrites("lines read and written again", mixed_lines()),
+        buffers(long),
+        buffers(middle),
+        buffers(short),
+        ending_none(long),
+        ending_none(middle),
+        ending_none(short),
         calls(POWER_ON, 1, script(Script::power_on)),
         inner_bytes("byte that ends no line", profile_a(), POWER_ON, Script::power_on),
         inner_bytes("the same, texts of 40 and 20 characters", profile_with_texts(), POWER_ON, Script::power_on),
@@ -156,4 +204,9 @@ pub const POWER_ON: &str = "power-on";
 pub const SR_STARTED: &str = "power-on, sample and line `SR`";
 
 /// How many rows have their speed and growth measured.
-pub const TIMED: usize = 4;
+pub const TIMED: usize = 5;
+
+/// The rows that are measured on the board.
+pub fn rows_on_board() -> Vec<Row> {
+    rows().into_iter().filter(|row| row.fits_board).collect()
+}

@@ -3,7 +3,7 @@
 
 use crate::fast::command::{Command, Status};
 use crate::fast::{module, profile, reader};
-use crate::feed::{calls, lines, rewritten, Digest, Implementation, Outcome};
+use crate::feed::{buffers, calls, lines, rewritten, Digest, Implementation, Outcome, Received, Taken};
 use independent::module::{Module, Sample};
 use independent::reader::Reader;
 use independent::weight::{Scale, UNITS};
@@ -33,6 +33,10 @@ impl Implementation for Fast {
 
     fn sample(profile: &Self::Profile, state: &mut Self::State, load: i32, stable: bool, out: &mut [u8]) -> Outcome {
         module::sample(profile, state, load, stable, out)
+    }
+
+    fn take_bytes(profile: &Self::Profile, state: &mut Self::State, bytes: &[u8], marks: &[u8], out: &mut [u8]) -> Taken {
+        module::take_bytes(profile, state, bytes, marks, out)
     }
 
     fn read(line: &[u8]) -> Option<Self::Answer<'_>> {
@@ -123,6 +127,11 @@ impl Implementation for Independent {
         outcome(MODULE.sample(profile, state, Sample { load, stable }, out))
     }
 
+    fn take_bytes(profile: &Self::Profile, state: &mut Self::State, bytes: &[u8], marks: &[u8], out: &mut [u8]) -> Taken {
+        let told = MODULE.buffer(profile, state, bytes, marks, out);
+        Taken { refusal: told.refusal, count: told.n, taken: told.taken }
+    }
+
     fn read(line: &[u8]) -> Option<Self::Answer<'_>> {
         READER.read(line)
     }
@@ -154,11 +163,17 @@ impl Implementation for Independent {
 
 /// The functions of one side, which callgrind counts by their names.
 macro_rules! named {
-    ($side:ty, $calls:ident, $lines:ident, $rewritten:ident) => {
+    ($side:ty, $calls:ident, $buffers:ident, $lines:ident, $rewritten:ident) => {
         #[inline(never)]
         #[no_mangle]
         pub fn $calls(profiles: &[u8], script: &[u8], out: &mut [u8]) -> u64 {
             calls::<$side>(profiles, script, out)
+        }
+
+        #[inline(never)]
+        #[no_mangle]
+        pub fn $buffers(profiles: &[u8], script: &[u8], received: Received, out: &mut [u8]) -> u64 {
+            buffers::<$side>(profiles, script, received, out)
         }
 
         #[inline(never)]
@@ -175,5 +190,5 @@ macro_rules! named {
     };
 }
 
-named!(Fast, fast_calls, fast_lines, fast_rewritten);
-named!(Independent, independent_calls, independent_lines, independent_rewritten);
+named!(Fast, fast_calls, fast_buffers, fast_lines, fast_rewritten);
+named!(Independent, independent_calls, independent_buffers, independent_lines, independent_rewritten);

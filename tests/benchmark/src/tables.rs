@@ -1,7 +1,7 @@
 //! The tables, in Markdown.
 
 use benchmark::image::FEW;
-use benchmark::rows::{rows, run, Input, Side, SIDES, SMALL, TIMED};
+use benchmark::rows::{rows, rows_on_board, run, Input, Row, Side, SIDES, SMALL, TIMED};
 use std::process::Command;
 use std::time::Instant;
 
@@ -47,7 +47,11 @@ fn seconds(inputs: [&Input; 2]) -> [Each; 2] {
     fastest
 }
 
+/// Thousands apart; a few instructions with a decimal.
 fn grouped(number: f64) -> String {
+    if number.fract() != 0.0 && number < 20.0 {
+        return format!("{number:.1}");
+    }
     let digits = format!("{number:.0}");
     let mut text = String::new();
     for (i, digit) in digits.chars().enumerate() {
@@ -81,7 +85,7 @@ fn speed() -> Vec<Each> {
     head("a second, on one core (ratios: of time)");
     let mut growth = vec![];
     for row in rows().into_iter().take(TIMED) {
-        let count = UNITS / row.units;
+        let count = UNITS.div_ceil(row.units);
         let [small, large] = seconds([&(row.input)(count), &(row.input)(10 * count)]);
         compared(&row.name, large.map(|time| (10 * count * row.units) as f64 / time), large);
         growth.push([0, 1, 2].map(|side| large[side] / small[side]));
@@ -98,14 +102,14 @@ fn numbers_in(path: &str) -> Vec<f64> {
 }
 
 /// The file holds all numbers of one side, then those of the next.
-fn counted<const N: usize>(path: &str) -> Vec<Counted<N>> {
+fn counted<const N: usize>(rows: &[Row], path: &str) -> Vec<Counted<N>> {
     let numbers = numbers_in(path);
-    let each = 2 * rows().len();
+    let each = 2 * rows.len();
     if numbers.len() != N * each {
         return vec![];
     }
     let at = |place: usize| std::array::from_fn(|side| numbers[side * each + place]);
-    (0..rows().len()).map(|row| [at(2 * row), at(2 * row + 1)]).collect()
+    (0..rows.len()).map(|row| [at(2 * row), at(2 * row + 1)]).collect()
 }
 
 /// The instructions of a count of 1: what the larger input adds.
@@ -114,8 +118,7 @@ fn cost<const N: usize>([small, large]: &Counted<N>, few: usize) -> Each<N> {
 }
 
 /// The name and the instructions of each row, where `few` is the small count.
-fn costs<const N: usize>(counted: &[Counted<N>], few: usize) -> Vec<(String, Each<N>)> {
-    let rows = rows();
+fn costs<const N: usize>(rows: &[Row], counted: &[Counted<N>], few: usize) -> Vec<(String, Each<N>)> {
     let all = || rows.iter().zip(counted);
     let named = |name| all().find(|(row, _)| row.name == name).map_or([0.0; N], |(_, counts)| cost(counts, few));
     let unit =
@@ -129,7 +132,7 @@ fn instructions(counted: &[Counted]) {
         return;
     }
     head("instructions for each");
-    for (name, costs) in costs(counted, SMALL) {
+    for (name, costs) in costs(&rows(), counted, SMALL) {
         compared(&name, costs, costs);
     }
 }
@@ -169,7 +172,7 @@ fn sizes(path: &str) {
 
 pub fn print(compared: usize, counts: &str, size: &str) {
     println!("The three sides gave the same checksums on {compared} inputs.");
-    let counted = counted(counts);
+    let counted = counted(&rows(), counts);
     let times = speed();
     instructions(&counted);
     growth(&times, &counted);
@@ -180,13 +183,15 @@ pub fn print(compared: usize, counts: &str, size: &str) {
 pub fn print_board(counts: &str, sizes: &str) {
     let line = |name: &str, [fast, small]: Each<2>| println!("| {name} | {} | {} |", grouped(fast), grouped(small));
     table(&["memory and code", "-O3", "-Os"]);
-    let [code, small_code, stack, small_stack] = numbers_in(sizes).try_into().expect("four sizes");
+    let [code, small_code, whole, small_whole, stack, small_stack] = numbers_in(sizes).try_into().expect("six sizes");
     line("code of the module, bytes", [code, small_code]);
+    line("code of the module with whole buffers and without the reader, bytes", [whole, small_whole]);
     line("stack, bytes", [stack, small_stack]);
-    let counted = counted(counts);
+    let rows = rows_on_board();
+    let counted = counted(&rows, counts);
     assert!(!counted.is_empty(), "{counts}: two numbers for each row and option");
     table(&["instructions for each", "-O3", "-Os"]);
-    for (name, costs) in costs(&counted, FEW) {
+    for (name, costs) in costs(&rows, &counted, FEW) {
         line(&name, costs);
     }
 }

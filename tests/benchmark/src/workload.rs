@@ -1,7 +1,7 @@
 //! The inputs: calls of the module and lines for the reader.
 
 use crate::fast::command::COMMANDS;
-use crate::feed;
+use crate::feed::{self, Received};
 use independent::random;
 
 /// The generator of the independent implementation's histories.
@@ -16,11 +16,11 @@ impl Rng {
         self.0.next()
     }
 
-    fn below(&mut self, n: u64) -> u64 {
+    pub fn below(&mut self, n: u64) -> u64 {
         self.next() % n
     }
 
-    fn chance(&mut self, percent: u64) -> bool {
+    pub fn chance(&mut self, percent: u64) -> bool {
         self.below(100) < percent
     }
 
@@ -234,12 +234,32 @@ fn any_command(rng: &mut Rng) -> Vec<u8> {
     }
 }
 
-fn any_load(rng: &mut Rng) -> i32 {
+pub fn any_load(rng: &mut Rng) -> i32 {
     match rng.below(10) {
         0 => rng.next() as i32,
         1..=3 => rng.between(-2000, 2000) as i32,
         4 => rng.between(-5_000_000, 5_000_000) as i32,
         _ => rng.below(230_000_000) as i32 >> rng.below(12),
+    }
+}
+
+/// A change of the profile or of the room, or a call; a line is a call for each byte.
+fn any_step(rng: &mut Rng, profiles: usize, room: &mut u16, script: &mut Script) {
+    match rng.below(100) {
+        0 => script.profile(rng.below(profiles as u64) as u32),
+        1..=2 => script.record(feed::POWER_ON, false, *room, [0; 4]),
+        3..=9 => *room = if rng.chance(60) { 256 } else { rng.below(60) as u16 },
+        10..=49 => script.record(feed::SAMPLE, rng.chance(60), *room, any_load(rng).to_le_bytes()),
+        _ => {
+            let faulty = rng.chance(5);
+            for byte in [&any_command(rng)[..], b"\r\n"].concat() {
+                let marked = faulty && rng.chance(10);
+                script.record(feed::BYTE, marked, *room, [byte, 0, 0, 0]);
+                if rng.chance(1) {
+                    script.byte(rng.below(256) as u8);
+                }
+            }
+        }
     }
 }
 
@@ -249,24 +269,117 @@ pub fn any_history(rng: &mut Rng, profiles: usize, calls: usize) -> Script {
     script.power_on();
     let mut room = 256;
     while script.len() < calls {
-        match rng.below(100) {
-            0 => script.profile(rng.below(profiles as u64) as u32),
-            1..=2 => script.record(feed::POWER_ON, false, room, [0; 4]),
-            3..=9 => room = if rng.chance(60) { 256 } else { rng.below(60) as u16 },
-            10..=49 => script.record(feed::SAMPLE, rng.chance(60), room, any_load(rng).to_le_bytes()),
-            _ => {
-                let faulty = rng.chance(5);
-                for byte in [&any_command(rng)[..], b"\r\n"].concat() {
-                    let marked = faulty && rng.chance(10);
-                    script.record(feed::BYTE, marked, room, [byte, 0, 0, 0]);
-                    if rng.chance(1) {
-                        script.byte(rng.below(256) as u8);
-                    }
-                }
-            }
-        }
+        any_step(rng, profiles, &mut room, &mut script);
     }
     script
+}
+
+/// Records of calls with whole buffers among them, and the bytes of all of these.
+#[derive(Clone, Default)]
+pub struct Buffers {
+    pub script: Script,
+    pub bytes: Vec<u8>,
+    pub marks: Vec<u8>,
+}
+
+impl Buffers {
+    pub fn received(&self) -> Received<'_> {
+        Received { bytes: &self.bytes, marks: &self.marks }
+    }
+
+    fn buffer(&mut self, room: usize, bytes: &[u8], marks: &[u8]) {
+        let size = bytes.len() as u32;
+        self.script.record(feed::BUFFER, false, room as u16, size.to_le_bytes());
+        self.bytes.extend(bytes);
+        self.marks.extend(marks);
+    }
+}
+
+/// A random history in which whole buffers come between the calls, and a line may have bytes of both; the last mark is missing. It
+/// ends when there are so many calls, or so many bytes in whole buffers.
+pub fn any_buffers(rng: &mut Rng, profiles: usize, calls: usize, bytes: usize) -> Buffers {
+    let mut all = Buffers::default();
+    all.script.power_on();
+    let mut room = 256;
+    while all.script.len() < calls && all.bytes.len() < bytes {
+        if rng.chance(80) {
+            any_step(rng, profiles, &mut room, &mut all.script);
+            continue;
+        }
+        let (bytes, mut marks) = any_buffer(rng);
+        marks.resize(bytes.len(), 0);
+        all.buffer(any_room(rng), &bytes, &marks);
+    }
+    all.marks.pop();
+    all
+}
+
+/// The largest room that a row of whole buffers lends, and the buffer of the Cortex-M0: the answers fit, to bytes of all commands in
+/// buffers of 4,096 and of 256.
+pub const LENT: usize = 16_384;
+pub const BOARD_LENT: usize = 2_048;
+
+/// The sizes of the buffers in the rows.
+pub const SIZES: [usize; 3] = [16, 256, 4_096];
+
+/// A power-on and a stable sample, then the bytes of the body so many times, in buffers of one size.
+pub fn in_buffers(size: usize, times: usize, body: &Script) -> Buffers {
+    let mut all = Buffers { script: repeated(0, &Script::default()), ..Buffers::default() };
+    let marked: Vec<(u8, u8)> = body.0.chunks_exact(feed::CALL).map(|record| (record[4], record[1])).collect();
+    for next in marked.repeat(times).chunks(size) {
+        let (bytes, marks): (Vec<u8>, Vec<u8>) = next.iter().copied().unzip();
+        all.buffer(LENT, &bytes, &marks);
+    }
+    all
+}
+
+/// Bytes that end no line: so many times a power-on and a buffer of that size.
+pub fn inner_buffers(size: usize, times: usize) -> Buffers {
+    let mut all = Buffers { script: repeated(0, &Script::default()), ..Buffers::default() };
+    for _ in 0..times {
+        all.script.power_on();
+        all.buffer(LENT, &vec![b'x'; size], &vec![0; size]);
+    }
+    all
+}
+
+/// A whole buffer and its marks: some lines cut anywhere, now and then with faults, as long as can be, too long, or with a mark too
+/// few or too many.
+pub fn any_buffer(rng: &mut Rng) -> (Vec<u8>, Vec<u8>) {
+    let lines = if rng.chance(80) { rng.below(5) } else { rng.below(60) };
+    let mut bytes: Vec<u8> = (0..lines).flat_map(|_| [&any_command(rng)[..], b"\r\n"].concat()).collect();
+    if rng.chance(50) {
+        bytes.drain(..rng.below(bytes.len() as u64 + 1) as usize);
+    }
+    if rng.chance(50) {
+        bytes.truncate(rng.below(bytes.len() as u64 + 1) as usize);
+    }
+    match rng.below(20) {
+        0 => bytes.resize(rng.between(4_094, 4_098) as usize, *rng.pick(&[&b' ', &b'S', &b'\r', &b'\n'])),
+        1 => {
+            let at = rng.below(bytes.len() as u64 + 1) as usize;
+            bytes.insert(at, rng.below(256) as u8);
+        }
+        _ => {}
+    }
+    let faulty = rng.chance(30);
+    let mut marks: Vec<u8> = bytes.iter().map(|_| if faulty && rng.chance(5) { rng.between(1, 255) as u8 } else { 0 }).collect();
+    match rng.below(40) {
+        0 => marks.push(0),
+        1 => drop(marks.pop()),
+        _ => {}
+    }
+    (bytes, marks)
+}
+
+/// A room for the answers to them.
+pub fn any_room(rng: &mut Rng) -> usize {
+    match rng.below(4) {
+        0 => rng.below(40) as usize,
+        1 => rng.below(600) as usize,
+        2 => 256,
+        _ => 4_096,
+    }
 }
 
 /// Records of lines.

@@ -1,16 +1,20 @@
 //! The Rust that is written for speed gives the answers of the independent implementation, call by call and line by line.
 
-use benchmark::feed::{call, profile_in, Implementation, Outcome, CALL};
+use benchmark::feed::{call, profile_in, take, Implementation, Outcome, Taken, BUFFER, CALL};
 use benchmark::sides::{Fast, Independent};
-use benchmark::workload::{any_history, any_lines, any_profiles, profile, profile_a, Rng, Script};
+use benchmark::workload::{
+    any_buffer, any_history, any_lines, any_load, any_profiles, any_room, in_buffers, inner_buffers, mixed_bytes, profile,
+    profile_a, Buffers, Rng, Script, BOARD_LENT, LENT, SIZES,
+};
 use independent::module::Module;
 use independent::random;
-use independent::replay::{Event, Replay};
+use independent::replay::{Called, Event, Replay};
 use independent::tally::Call;
 use independent::weight::UNITS;
 
 const PROFILES: usize = 64;
 const CALLS: usize = 200_000;
+const BUFFERS: usize = 6_000;
 const SCRIPTS: usize = 500;
 const LINES: usize = 50_000;
 
@@ -52,6 +56,100 @@ fn histories_are_the_same() {
     assert!(seen.iter().all(|&calls| calls > 100), "every refusal is met: {seen:?}");
 }
 
+/// A call of either kind, with the buffer that was lent to it.
+fn lent<T>(room: usize, call: impl FnOnce(&mut [u8]) -> T) -> (T, Vec<u8>) {
+    let mut out = vec![0xA5; room];
+    let told = call(&mut out);
+    (told, out)
+}
+
+/// Whole buffers among samples, on profiles that change, so that the state is often refused; each with what was left of the one
+/// before, or without it.
+#[test]
+fn whole_buffers_are_the_same() {
+    let mut rng = Rng::new(10);
+    let profiles = any_profiles(&mut rng, PROFILES);
+    let (mut fast, mut independent) =
+        ((Fast::profile(&profiles, 0), Fast::start()), (Independent::profile(&profiles, 0), Independent::start()));
+    let (mut rest, mut rest_marks) = (vec![], vec![]);
+    let (mut seen, mut stopped) = ([0usize; 6], 0);
+    for at in 0..BUFFERS {
+        match rng.below(20) {
+            0 => {
+                let n = rng.below(PROFILES as u64) as u32;
+                (fast.0, independent.0) = (Fast::profile(&profiles, n), Independent::profile(&profiles, n));
+            }
+            1 => {
+                let one = lent(256, |out| Fast::power_on(&fast.0, &mut fast.1, out));
+                assert_eq!(one, lent(256, |out| Independent::power_on(&independent.0, &mut independent.1, out)), "call {at}");
+            }
+            2..=7 => {
+                let (load, stable) = (any_load(&mut rng), rng.chance(60));
+                let one = lent(256, |out| Fast::sample(&fast.0, &mut fast.1, load, stable, out));
+                let other = lent(256, |out| Independent::sample(&independent.0, &mut independent.1, load, stable, out));
+                assert_eq!(one, other, "call {at}");
+            }
+            _ => {}
+        }
+        let (more, more_marks) = any_buffer(&mut rng);
+        let (bytes, marks) = ([rest, more].concat(), [rest_marks, more_marks].concat());
+        let room = any_room(&mut rng);
+        let one = lent(room, |out| Fast::take_bytes(&fast.0, &mut fast.1, &bytes, &marks, out));
+        let other = lent(room, |out| Independent::take_bytes(&independent.0, &mut independent.1, &bytes, &marks, out));
+        assert_eq!(one, other, "call {at}: {}", bytes.escape_ascii());
+        let Taken { refusal, taken, .. } = one.0;
+        seen[usize::from(refusal)] += 1;
+        stopped += usize::from(refusal == 0 && taken < bytes.len());
+        let goes_on = refusal == 0 && rng.chance(70);
+        (rest, rest_marks) = if goes_on { (bytes[taken..].to_vec(), marks[taken..].to_vec()) } else { (vec![], vec![]) };
+    }
+    assert!([0, 1, 2, 5].iter().all(|&refusal| seen[refusal] > 100) && stopped > 100, "{seen:?}, {stopped} stopped");
+    assert_eq!((seen[3], seen[4]), (0, 0));
+}
+
+/// Both sides of the length's limit, and one mark fewer and more.
+#[test]
+fn lengths_are_the_same() {
+    let profiles = profile_a();
+    let (fast, independent) = (Fast::profile(&profiles, 0), Independent::profile(&profiles, 0));
+    for (bytes, marks) in
+        [(0, 0), (0, 1), (1, 0), (1, 1), (4_095, 4_096), (4_096, 4_095), (4_096, 4_096), (4_096, 4_097), (4_097, 4_097)]
+    {
+        for byte in *b"S\r\n" {
+            let (bytes, marks) = (vec![byte; bytes], vec![0; marks]);
+            let one = Fast::take_bytes(&fast, &mut Fast::start(), &bytes, &marks, &mut []);
+            assert_eq!(one, Independent::take_bytes(&independent, &mut Independent::start(), &bytes, &marks, &mut []));
+            assert_eq!(one.refusal, if bytes.len() == marks.len() && bytes.len() <= 4_096 { 0 } else { 5 });
+        }
+    }
+}
+
+/// The rows of whole buffers measure what they say: each byte is taken, in the room that is lent there.
+#[test]
+fn whole_buffers_are_taken() {
+    for size in SIZES {
+        let room = if size < 4_096 { BOARD_LENT } else { LENT };
+        assert_taken(&in_buffers(size, 100, &mixed_bytes()), room);
+        assert_taken(&inner_buffers(size, 3), room);
+    }
+}
+
+fn assert_taken(all: &Buffers, room: usize) {
+    let (profile, mut state) = (Fast::profile(&profile_a(), 0), Fast::start());
+    let (mut at, mut out) = (0, vec![0; room]);
+    for record in all.script.0.chunks_exact(CALL) {
+        let record: &[u8; CALL] = record.try_into().expect("a whole record");
+        if record[0] != BUFFER {
+            call::<Fast>(&profile, &mut state, record, &mut out);
+            continue;
+        }
+        let before = at;
+        let Taken { refusal, taken, .. } = take::<Fast>(&profile, &mut state, record, all.received(), &mut at, &mut out);
+        assert_eq!((refusal, taken as u64), (0, at - before));
+    }
+    assert_eq!(at, all.bytes.len() as u64);
+}
+
 /// The rows of a running SR measure what they say.
 #[test]
 fn sr_sends_none_or_each_of_the_samples() {
@@ -74,26 +172,30 @@ fn aimed_histories_are_the_same() {
     for _ in 0..SCRIPTS {
         let (mut replay, mut state) = (Replay::new(Module::default()), Fast::start());
         for line in random::script(&mut rng) {
-            let room = replay.room;
-            replay.line(&line, &mut vec![], &mut |event| assert_same(event, room, &mut state));
+            replay.line(&line, &mut vec![], &mut |event| assert_same(event, &mut state));
         }
     }
 }
 
-fn assert_same(event: &Event, room: usize, state: &mut <Fast as Implementation>::State) {
+fn assert_same(event: &Event, state: &mut <Fast as Implementation>::State) {
     let from = event.profile;
     let unit = UNITS.iter().position(|unit| *unit == from.scale.unit).expect("a unit") as u8;
     let limits = [from.capacity, from.margin, from.zeroing, from.patience];
     let texts = [0, 1, 2, 3].map(|at| &from.texts[at][..]);
     let profile = Fast::profile(&profile(limits, [unit, from.scale.decimals, from.scale.step], texts), 0);
-    let mut out = [0xA5; 1024];
-    let lent = &mut out[..room];
-    let outcome = match event.call {
-        None => Fast::power_on(&profile, state, lent),
-        Some(Call::Byte { byte, good }) => Fast::byte(&profile, state, byte, !good, lent),
-        Some(Call::Sample { load, stable }) => Fast::sample(&profile, state, load, stable, lent),
+    let mut out = [0xA5; 4096];
+    let lent = &mut out[..event.room];
+    let outcome = match event.called {
+        Called::On => Fast::power_on(&profile, state, lent),
+        Called::Single(Call::Byte { byte, good }) => Fast::byte(&profile, state, byte, !good, lent),
+        Called::Single(Call::Sample { load, stable }) => Fast::sample(&profile, state, load, stable, lent),
+        Called::Buffer(singly) => {
+            let Taken { refusal, count, taken } = Fast::take_bytes(&profile, state, singly.bytes, singly.marks, lent);
+            assert_eq!(taken, singly.count, "{} of {from:?}", singly.bytes.escape_ascii());
+            Outcome { refusal, count }
+        }
     };
-    assert_eq!((outcome.refusal, &out[..outcome.count]), (event.refusal, event.answer), "{:?} of {from:?}", event.call);
+    assert_eq!((outcome.refusal, &out[..outcome.count]), (event.refusal, event.answer), "{from:?}");
     assert!(out[outcome.count..].iter().all(|&byte| byte == 0xA5), "nothing is written past the answer");
 }
 

@@ -32,7 +32,8 @@ fn refused(name: &'static str, profile: &str) -> Case {
 pub fn all() -> Vec<Case> {
     let base = [printing(), ranges(), zeroing_and_taring(), waiting(), lines(), profiles(), states(), manuals()];
     let on_change = [sr_lines(), sr_starts_and_ends(), sr_memory(), sr_passed_over(), sr_thresholds(), sr_refusals()];
-    base.into_iter().chain(on_change).flatten().collect()
+    let buffers = [buffer_lines(), buffer_marks(), buffer_rooms(), buffer_lengths(), buffer_refusals()];
+    base.into_iter().chain(on_change).chain(buffers).flatten().collect()
 }
 
 fn printing() -> Vec<Case> {
@@ -602,6 +603,213 @@ fn sr_refusals() -> Vec<Case> {
     ]
 }
 
+// Document 02, No. 2: a whole buffer of received bytes.
+
+/// A whole buffer of these bytes, all good.
+fn whole(bytes: &str) -> String {
+    format!("w{}", bytes.bytes().map(|byte| format!(" {byte:02X}")).collect::<String>())
+}
+
+/// A whole buffer of so many good bytes, all the same, which is given in hexadecimal.
+pub fn run(count: usize, byte: &str) -> String {
+    format!("w{}", format!(" {byte}").repeat(count))
+}
+
+/// Answers and state are those of the bytes taken singly.
+fn buffer_lines() -> Vec<Case> {
+    let held = |words: &str| format!("state zero 0 tare 0 sample none waits none repeats no shows weight line {words}");
+    vec![
+        on_a("lines in one buffer", &[&whole("DW\r\nTAC\r\nQ\r\n"), "state"], &["DW A", "TAC A", "ES", &held("0")]),
+        on_a("an empty buffer", &["w", "state", "b 51 0D", "w", "state", "w 0A"], &[&held("0"), &held("1 cr"), "ES"]),
+        on_a(
+            "a line over several calls",
+            &[&whole("DW\r\nTA"), "state", &whole("C"), "b 0D", "state", "w 0A", "w 44", "b 57 0D", "w 0A 44"],
+            &["DW A", &held("2"), &held("3 cr"), "TAC A", "DW A"],
+        ),
+        on_a("CR and LF in odd places", &[&whole("\nDW\r\nDW\rDW\r\nDW\r\r\n\r\n")], &["ES", "ES", "ES", "ES"]),
+        on_a(
+            "each line finds what the ones before it left",
+            &["s 10000050", &whole("T\r\nSI\r\nTAC\r\nSI\r\nD \"A\"\r\n"), "state"],
+            &[
+                "T S    10.0001 g",
+                "S S     0.0000 g",
+                "TAC A",
+                "S S    10.0001 g",
+                "D A",
+                "state zero 0 tare 0 sample s 10000050 waits none repeats no shows \"A\" line 0",
+            ],
+        ),
+        on_a(
+            "a wait begins in a buffer, and @ in it drops it",
+            &[&whole("S\r\nSI\r\nTA\r\n"), "s 7000", &whole("SIR\r\n"), "u 1", &whole("T\r\n@\r\nSR\r\n"), "s 2", "s 90000"],
+            &[
+                "S I",
+                "TA I",
+                "S S     0.0070 g",
+                "S S     0.0070 g",
+                "S D     0.0000 g",
+                ON,
+                "S S     0.0000 g",
+                "S S     0.0900 g",
+            ],
+        ),
+        on_a(
+            "lines that are too long",
+            &[&whole(&format!("{}\r\n{}\r\nDW\r\n", "S".repeat(65), "S".to_string() + &" ".repeat(63)))],
+            &["ES", "EL", "DW A"],
+        ),
+    ]
+}
+
+/// 0 is good, anything else faulty.
+fn buffer_marks() -> Vec<Case> {
+    let faulty_at = |place: usize| format!("w{} 53! 0D 0A 44 57 0D 0A", " 53".repeat(place));
+    vec![
+        on_a("a faulty CR", &["w 53 0D! 0A 0D 0A"], &["ET"]),
+        on_a("a faulty LF", &["w 53 0D 0A! 0D 0A"], &["ET"]),
+        on_a("one line is faulty, the next is not", &["w 44! 57 0D 0A 44 57 0D 0A"], &["ET", "DW A"]),
+        on_a("a line is faulty, the one before is not", &["w 44 57 0D 0A 44 57! 0D 0A"], &["DW A", "ET"]),
+        on_a("faulty in one call, ended in another", &["w 44!", "w 57 0D 0A", "w 44 57!", "b 0D 0A"], &["ET", "ET"]),
+        on_a("all faulty", &["w 44! 57! 0d! 0a!", "w 0d 0a"], &["ET"]),
+        on_a("marks of 255 and 1", &[&faulty_at(254), &faulty_at(255)], &["ET", "DW A", "ET", "DW A"]),
+        on_a("marks of 127, 128 and 129", &[&faulty_at(126), &faulty_at(127), &faulty_at(128)], &["ET", "DW A"].repeat(3)),
+    ]
+}
+
+/// The answers share the room; the call stops before the byte whose answer does not fit.
+fn buffer_rooms() -> Vec<Case> {
+    let held = |words: &str| format!("state zero 0 tare 0 sample none waits none repeats no shows weight line {words}");
+    let (twice, listed) = (whole("SI\r\nSI\r\n"), whole("I0\r\nQ\r\n"));
+    let (line_cr, full) = (held("2 cr"), [&LIST[..], &["ES"]].concat());
+    vec![
+        on_a("S I twice with room 4", &["room 4", &twice, "state", "room 5", "w 0A"], &["took 3", &line_cr, "S I"]),
+        on_a("S I twice with room 5", &["room 5", &twice, "state", "w 0A"], &["S I", "took 7", &line_cr, "S I"]),
+        on_a("S I twice with room 8", &["room 8", &twice, "state", "w 0A"], &["S I", "took 7", &line_cr, "S I"]),
+        on_a("S I twice with room 9", &["room 9", &twice, "state", "b 0A"], &["S I", "took 7", &line_cr, "S I"]),
+        on_a("S I twice with room 10", &["room 10", &twice, "state"], &["S I", "S I", &held("0")]),
+        on_a("a shorter answer is not reached", &["room 243", &listed, "state"], &["took 3", &line_cr]),
+        on_a("I0 alone fits", &["room 247", &listed, "state", "w 0A"], &[&LIST[..], &["took 6", &held("1 cr"), "ES"]].concat()),
+        on_a("I0 and ES fit", &["room 248", &listed, "state"], &[&full[..], &[&held("0")]].concat()),
+        on_a("LF with room 0", &["b 51 0D", "room 0", "w 0A", "state"], &["took 0", &held("1 cr")]),
+        on_a(
+            "LF and more with room 3",
+            &["w 51 0D", "room 3", "w 0A 51 0D 0A", "room 8", "w 0A 51 0D 0A"],
+            &["took 0", "ES", "ES"],
+        ),
+        on_a(
+            "an empty answer fits no room at all",
+            &["room 0", &whole("S\r\nSI\r\n"), "state", "room 5", "w 0A"],
+            &["took 6", "state zero 0 tare 0 sample none waits S 0 repeats no shows weight line 2 cr", "S I"],
+        ),
+        on_a(
+            "an empty answer fits a full room",
+            &["room 4", &whole("Q\r\nS\r\nSI\r"), "state"],
+            &["ES", "state zero 0 tare 0 sample none waits S 0 repeats no shows weight line 2 cr"],
+        ),
+        on_a("bytes that end no line need no room", &["room 4", &whole("Q\r\nQ\rQ\n"), "state"], &["ES", &held("4")]),
+        on_a(
+            "the state is that after the bytes taken",
+            &["s 5000", "room 24", &whole("T\r\nTAC\r\n"), "state", "room 25", "w 0A", "state"],
+            &[
+                "T S     0.0050 g",
+                "took 7",
+                "state zero 0 tare 5000 sample s 5000 waits none repeats no shows weight line 3 cr",
+                "TAC A",
+                "state zero 0 tare 0 sample s 5000 waits none repeats no shows weight line 0",
+            ],
+        ),
+        on_a(
+            "SR in a room of 17 and 18",
+            &["s 0", "> SIR", "room 17", &whole("SR\r\nSI\r\n"), "state", "room 18", "w 0A 53", "state"],
+            &[
+                "S S     0.0000 g",
+                "took 3",
+                "state zero 0 tare 0 sample s 0 waits none repeats SIR shows weight line 2 cr",
+                "S S     0.0000 g",
+                "state zero 0 tare 0 sample s 0 waits none repeats SR 0 - shows weight line 1",
+            ],
+        ),
+        on_a(
+            "the largest room holds sixteen lists",
+            &["room 4096", &whole(&"I0\r\n".repeat(17)), "w 0A"],
+            &[&LIST.repeat(16)[..], &["took 67"], &LIST].concat(),
+        ),
+    ]
+}
+
+/// Up to 4,096 bytes, and as many marks.
+fn buffer_lengths() -> Vec<Case> {
+    let held = |words: &str| format!("state zero 0 tare 0 sample none waits none repeats no shows weight line {words}");
+    let (none, over) = (held("0"), held("64 over"));
+    vec![
+        on_a(
+            "one mark fewer and one more",
+            &["w- 53", "w+ 53", "w+", "state", "w 53", "state"],
+            &["refused 5", "refused 5", "refused 5", &none, &held("1")],
+        ),
+        on_a(
+            "more bytes and one mark fewer or more",
+            &["w- 53 0D 0A", "w+ 53! 0D 0A", "state"],
+            &["refused 5", "refused 5", &none],
+        ),
+        on_a(
+            "4,097",
+            &[&run(4_097, "53"), "state", "room 0", &run(4_097, "53"), &run(9_999, "0A")],
+            &["refused 5", &none, "refused 5", "refused 5"],
+        ),
+        on_a(
+            "4,096",
+            &[&run(4_096, "53"), "state", &run(4_096, "0D"), "state", &run(4_096, "0A"), "state"],
+            &[&over, &held("64 over cr"), "ES", &over],
+        ),
+        on_a(
+            "4,096 with room 0",
+            &["room 0", &run(4_096, "53"), "state", "w 0D", &run(4_096, "0A"), "state"],
+            &[&over, "took 0", &held("64 over cr")],
+        ),
+        on_a(
+            "4,095, 64, 65 and none",
+            &[&run(64, "53"), "state", &run(1, "53"), "state", &run(4_095, "20"), &run(0, "0A"), "state"],
+            &[&held("64"), &over, &over],
+        ),
+        on_a(
+            "refused, the line goes on and the text stays",
+            &["> D \"A\"", "b 44 57 0D", "w- 0A", "w+ 0A", &run(4_097, "0A"), "state", "w 0A"],
+            &["D A", "refused 5", "refused 5", "refused 5", &held("2 cr").replace("weight", "\"A\""), "DW A"],
+        ),
+    ]
+}
+
+/// 1, then 2, then 5; never 3.
+fn buffer_refusals() -> Vec<Case> {
+    let bad = "profile 0 1000000 4400000 3 g 4 1";
+    let narrow = "profile 220000000 1000000 4999 3 g 4 1";
+    let state = "state zero 5000 tare 0 sample s 5000 waits none repeats no shows weight line 0";
+    let (full, long) = (&run(4_096, "53")[..], &run(4_097, "53")[..]);
+    vec![
+        on_a(
+            "2 before 5",
+            &["s 5000", "> Z", narrow, "w 53", "w", "w- 53", "w+ 53", "w+", full, long, "state", A, long],
+            &[&["Z A"], &["refused 2"; 7][..], &[state, "refused 5"]].concat(),
+        ),
+        on_a(
+            "1 before 2 and 5",
+            &["s 5000", "> Z", bad, "w 53", "w", "w- 53", "w+ 53", "w+", full, long, "state"],
+            &[&["Z A"], &["refused 1"; 7][..], &[state]].concat(),
+        ),
+        on_a(
+            "2 with room 0",
+            &["s 5000", "> Z", "b 51 0D", narrow, "room 0", "w 0A", A, "w 0A", "room 4", "w 0A"],
+            &["Z A", "refused 2", "took 0", "ES"],
+        ),
+        on_a(
+            "3 is the byte call's alone",
+            &["room 3", &whole("Q\r\n"), "b 0A", "w 0A", "room 4", "w 0A"],
+            &["took 2", "refused 3", "took 0", "ES"],
+        ),
+    ]
+}
+
 fn manuals() -> Vec<Case> {
     let hundredths = "profile 220000000 1000000 4400000 3 g 2 1";
     let thousandths = "profile 220000000 1000000 4400000 3 g 3 1";
@@ -646,33 +854,32 @@ fn manuals() -> Vec<Case> {
             ],
         ),
         on_a("I1", &["> I1"], &["I1 A \"0\" \"2.30\" \"2.20\""]),
-        on_a(
-            "I0",
-            &["> I0"],
-            &[
-                "I0 B 0 \"I0\"",
-                "I0 B 0 \"I1\"",
-                "I0 B 0 \"I2\"",
-                "I0 B 0 \"I3\"",
-                "I0 B 0 \"I4\"",
-                "I0 B 0 \"I5\"",
-                "I0 B 0 \"S\"",
-                "I0 B 0 \"SI\"",
-                "I0 B 0 \"SIR\"",
-                "I0 B 0 \"Z\"",
-                "I0 B 0 \"ZI\"",
-                "I0 B 0 \"@\"",
-                "I0 B 1 \"D\"",
-                "I0 B 1 \"DW\"",
-                "I0 B 1 \"SR\"",
-                "I0 B 1 \"T\"",
-                "I0 B 1 \"TA\"",
-                "I0 B 1 \"TAC\"",
-                "I0 A 1 \"TI\"",
-            ],
-        ),
+        on_a("I0", &["> I0"], &LIST),
     ]
 }
+
+/// What I0 answers.
+const LIST: [&str; 19] = [
+    "I0 B 0 \"I0\"",
+    "I0 B 0 \"I1\"",
+    "I0 B 0 \"I2\"",
+    "I0 B 0 \"I3\"",
+    "I0 B 0 \"I4\"",
+    "I0 B 0 \"I5\"",
+    "I0 B 0 \"S\"",
+    "I0 B 0 \"SI\"",
+    "I0 B 0 \"SIR\"",
+    "I0 B 0 \"Z\"",
+    "I0 B 0 \"ZI\"",
+    "I0 B 0 \"@\"",
+    "I0 B 1 \"D\"",
+    "I0 B 1 \"DW\"",
+    "I0 B 1 \"SR\"",
+    "I0 B 1 \"T\"",
+    "I0 B 1 \"TA\"",
+    "I0 B 1 \"TAC\"",
+    "I0 A 1 \"TI\"",
+];
 
 /// Answer lines with what decode prints for them; the manuals' first.
 pub fn captures() -> Vec<(&'static str, &'static str)> {

@@ -1,7 +1,7 @@
 //! Two programs on the same input: the first difference, and the shortest input that shows it.
 
 use crate::profile::Profile;
-use crate::replay::Event;
+use crate::replay::{Called, Event};
 use crate::sent_on_change::Follower;
 use crate::tally::Tally;
 
@@ -67,7 +67,7 @@ fn thinned<T: Clone>(items: &[T], differs: &mut dyn FnMut(&[T]) -> bool) -> Vec<
         let mut run = items.len();
         while run > 0 {
             items = without_runs(items, run, differs);
-            run = if run > SHORT_RUN { run / 2 } else { run - 1 };
+            run = if run > SHORT_RUN { (run / 2).next_multiple_of(3).max(SHORT_RUN) } else { run - 1 };
         }
         if items.len() == before {
             return items;
@@ -75,7 +75,8 @@ fn thinned<T: Clone>(items: &[T], differs: &mut dyn FnMut(&[T]) -> bool) -> Vec<
     }
 }
 
-/// Runs up to this long are tried at every place: a byte of a `b` line is three characters.
+/// Runs up to this long are tried at every place. A byte of a `b` or `w` line is three characters, so that longer runs are multiples
+/// of three.
 const SHORT_RUN: usize = 6;
 
 fn without_runs<T: Clone>(mut items: Vec<T>, run: usize, differs: &mut dyn FnMut(&[T]) -> bool) -> Vec<T> {
@@ -98,31 +99,47 @@ fn without_runs<T: Clone>(mut items: Vec<T>, run: usize, differs: &mut dyn FnMut
 pub struct Judge {
     judges: Option<(Profile, Tally, Follower)>,
     pub calls: usize,
-    pub refusals: [usize; 4],
+    pub refusals: [usize; 6],
     pub weights: usize,
     /// What the tally finds wrong.
     pub faults: Vec<String>,
     /// What the follower of SR finds wrong.
     pub strays: Vec<String>,
+    /// What a whole-buffer call tells otherwise than its bytes taken singly.
+    pub apart: Vec<String>,
 }
 
 impl Judge {
     pub fn see(&mut self, event: &Event) {
         self.calls += 1;
         self.refusals[usize::from(event.refusal)] += 1;
-        let Some(call) = event.call else {
+        if let Called::On = event.called {
             if event.refusal == 0 {
                 self.judges = Some((event.profile.clone(), Tally::new(event.profile), Follower::new(event.profile)));
             }
             return;
-        };
+        }
+        if let Called::Buffer(singly) = event.called {
+            self.apart.extend(singly.judge(event.refusal, event.room, event.answer).err());
+        }
         if self.judges.as_ref().is_some_and(|(profile, ..)| profile != event.profile) && event.refusal == 0 {
             self.judges = None;
         }
         let Some((_, tally, follower)) = self.judges.as_mut() else { return };
-        self.weights += usize::from(event.answer.len() > 17 && event.answer[0] != b'I');
-        self.faults.extend(tally.take(call, event.refusal, event.answer).err());
-        self.strays.extend(follower.take(call, event.refusal, event.answer).err());
+        let is_weight = |answer: &[u8]| answer.len() > 17 && answer[0] != b'I';
+        match event.called {
+            Called::Single(call) => {
+                self.weights += usize::from(is_weight(event.answer));
+                self.faults.extend(tally.take(call, event.refusal, event.answer).err());
+                self.strays.extend(follower.take(call, event.refusal, event.answer).err());
+            }
+            Called::Buffer(singly) => {
+                self.weights += singly.taken().iter().filter(|(_, answer)| is_weight(answer)).count();
+                self.faults.extend(tally.take_all(singly.taken()).err());
+                self.strays.extend(follower.take_all(singly.taken()).err());
+            }
+            Called::On => {}
+        }
     }
 }
 

@@ -68,6 +68,16 @@ faults! {
     BytePastAnswerWritten, RefusalWritesBuffer,
     RefusalTwoFirst, RefusalThreeFirst, RoomOffByOne, ShortRoomTakes, ZeroUnjudged, TareUnjudged, CountUnjudged,
     RefusedOnForgetsState,
+    // a whole buffer: its refusals and its marks
+    FiveBeforeOne, FiveBeforeTwo, LongBufferTaken, LongBufferCut, FullBufferRefused, ExtraMarkIgnored, MissingMarkGood,
+    BufferProfileUntested, BufferStateUntested, EmptyBufferUntested, RefusedBufferTaken, RefusalFiveShowsWeight,
+    MarksBeyondOneGood, EvenMarksGood, MarksAbove127Good, MarksShifted, FaultSpreads,
+    // a whole buffer: the room that its answers share, and where it stops
+    RoomNotShared, RoomCutTo256, BufferRoomOffByOne, FullRoomStops, EmptyAnswerNeedsRoom, StopsAtFirstAnswer, AnswersAtFront,
+    UnfitAnswerDropped, UnfitByteSkipped, UnfitByteTaken, StoppingByteCounted, UntakenStateKept, StoppedStateRolledBack,
+    StoppedAnswersDropped, UnfitAnswerCut, UnfitAnswerCounted, StoppedBufferRefused, FirstByteRefused, StopUnsaid,
+    // a whole buffer: what goes on from call to call, and what is told
+    BufferStartsLine, BufferEndsLine, CrForgottenBetween, CountInOneByte, TakenInOneByte,
     ;
     OF_THE_READER:
     ReadLeadingZero, ReadMinusZero, ReadSevenDecimals, ReadBarePoint, ReadNegativeTare, ReadLeftAligned, ReadShortField,

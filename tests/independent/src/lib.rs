@@ -1,6 +1,7 @@
-//! Document 01 and the first request of document 02 written a second time, from the paper, by plain arithmetic and strings. It
+//! Document 01 and the first two requests of document 02 written a second time, from the paper, by plain arithmetic and strings. It
 //! shares no table and no code with the proved module, which it is compared with.
 
+pub mod buffer;
 pub mod cases;
 pub mod compare;
 pub mod decode;
@@ -12,6 +13,7 @@ pub mod random;
 pub mod reader;
 pub mod replay;
 pub mod sent_on_change;
+pub mod singly;
 pub mod sweeps;
 pub mod tally;
 pub mod weight;

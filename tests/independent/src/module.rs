@@ -1,4 +1,4 @@
-//! The module: power-on, the byte call and the sample call, with their refusals 1, 2 and 3.
+//! The module: power-on, the byte call and the sample call, with their refusals 1, 2 and 3. The whole-buffer call is `buffer.rs`.
 
 use crate::faults::Fault;
 use crate::on_change::{kept_net, least_change, OnChange};
@@ -121,7 +121,7 @@ pub struct Module {
 }
 
 impl Module {
-    fn has(&self, fault: Fault) -> bool {
+    pub(crate) fn has(&self, fault: Fault) -> bool {
         self.fault == Some(fault)
     }
 
@@ -196,11 +196,12 @@ impl Module {
     }
 
     /// A refusal leaves the state and the buffer.
-    fn refuse(&self, refusal: u8, state: &mut State, buffer: &mut [u8]) -> Outcome {
+    pub(crate) fn refuse(&self, refusal: u8, state: &mut State, buffer: &mut [u8]) -> Outcome {
         let shows_weight = match refusal {
             1 => Fault::RefusalOneShowsWeight,
             2 => Fault::RefusalTwoShowsWeight,
-            _ => Fault::RefusalThreeShowsWeight,
+            3 => Fault::RefusalThreeShowsWeight,
+            _ => Fault::RefusalFiveShowsWeight,
         };
         if self.has(shows_weight) {
             state.shown = None;
@@ -211,9 +212,9 @@ impl Module {
         Outcome { refusal, n: 0 }
     }
 
-    // Refusals 1 and 2.
+    // Refusals 1 and 2, of every call but power-on.
 
-    fn refusal(&self, profile: &Profile, state: &State) -> Option<u8> {
+    pub(crate) fn refusal(&self, profile: &Profile, state: &State) -> Option<u8> {
         let profile_refused = profile.is_refused(self.fault);
         let state_refused = self.state_refused(profile, state);
         match (profile_refused, state_refused) {

@@ -1,11 +1,12 @@
 //! Random scripts for replay and random captures for decode, all from a seed. While a script is made it is also run on the good
 //! module, so that loads and numbers can be aimed at the edges of the zero, tare and count in force.
 
+use crate::cases::run;
 use crate::compare::Script;
 use crate::module::{Module, State, COMMANDS};
 use crate::on_change::least_change;
 use crate::profile::{Profile, TEXT_ROOMS};
-use crate::replay::Replay;
+use crate::replay::{Called, Replay};
 use crate::weight::{number_text, ten_to, Scale, Unit, UNITS};
 
 /// A small generator of numbers (splitmix64).
@@ -223,6 +224,11 @@ fn narrowed_to(former: &Profile, limit: i64, tare: u32, below: u32) -> Profile {
     Profile { margin, ..other }
 }
 
+/// A line with its CR LF, all good.
+fn ended(line: Vec<u8>) -> Vec<(u8, bool)> {
+    line.into_iter().chain(*b"\r\n").map(|byte| (byte, true)).collect()
+}
+
 fn text_line(at: usize, text: &[u8]) -> Vec<u8> {
     [format!("text {} ", at + 2).as_bytes(), text].concat()
 }
@@ -235,7 +241,7 @@ pub const MOST_UNSEEN: usize = 20;
 
 /// A script that starts anew: profile, texts, room, power-on.
 pub fn script(rng: &mut Rng) -> Script {
-    let mut maker = Maker { replay: Replay::new(Module::default()), lines: vec![], unseen: 0, rng };
+    let mut maker = Maker { replay: Replay::new(Module::default()), lines: vec![], unseen: 0, taken: 0, rng };
     maker.start();
     for _ in 0..maker.rng.between(8, 45) {
         maker.step();
@@ -250,13 +256,21 @@ struct Maker<'r> {
     lines: Script,
     /// The calls since the last `state`.
     unseen: usize,
+    /// The bytes that the last line took, if it was a whole-buffer call.
+    taken: usize,
 }
 
 impl Maker<'_> {
     /// Adds a line, with `state` before it where that is due, and often after it.
     fn add(&mut self, line: Vec<u8>) {
-        let mut calls = 0;
-        self.replay.line(&line, &mut vec![], &mut |_| calls += 1);
+        let (mut calls, mut taken) = (0, 0);
+        self.replay.line(&line, &mut vec![], &mut |event| {
+            calls += 1;
+            if let Called::Buffer(singly) = event.called {
+                taken = singly.count;
+            }
+        });
+        self.taken = taken;
         assert!(calls <= MOST_UNSEEN, "a script line makes too many calls");
         if self.unseen + calls > MOST_UNSEEN {
             self.look();
@@ -308,7 +322,9 @@ impl Maker<'_> {
 
     fn step(&mut self) {
         match self.rng.below(100) {
-            0..=28 => self.sample(),
+            0..=23 => self.sample(),
+            24..=27 => self.buffers(),
+            28 => self.odd_buffer(),
             29..=30 => self.show(),
             31..=59 => self.command(),
             60..=71 => self.odd_line(),
@@ -414,8 +430,12 @@ impl Maker<'_> {
     }
 
     /// Sends a line as `> ..`, with CR LF at most as many bytes as may go unseen; what stands before them is sent as bytes, and now
-    /// and then more.
+    /// and then more. Other lines are sent in whole buffers.
     fn send(&mut self, line: Vec<u8>) {
+        if self.rng.chance(15) {
+            self.send_in_buffers(&ended(line));
+            return;
+        }
         let least = line.len().saturating_sub(MOST_UNSEEN - 2);
         let most = if self.rng.chance(10) { line.len() } else { least };
         let (front, rest) = line.split_at(self.rng.between(least as i128, most as i128) as usize);
@@ -568,14 +588,18 @@ impl Maker<'_> {
             1 => self.long_line(),
             _ => self.command_line(),
         };
-        let mut bytes: Vec<(u8, bool)> = line.into_iter().chain(*b"\r\n").map(|byte| (byte, true)).collect();
+        let mut bytes = ended(line);
         for _ in 0..self.rng.pick(&[1, 1, 1, 2, 3]) {
             self.damage(&mut bytes);
         }
         if self.rng.chance(70) {
             bytes.extend([(13, true), (10, true)]);
         }
-        self.send_marked(&bytes);
+        if self.rng.chance(30) {
+            self.send_in_buffers(&bytes);
+        } else {
+            self.send_marked(&bytes);
+        }
     }
 
     fn damage(&mut self, bytes: &mut Vec<(u8, bool)>) {
@@ -602,6 +626,110 @@ impl Maker<'_> {
         }
     }
 
+    // Whole buffers.
+
+    /// Some lines, of which now and then one is damaged and the last one cut short.
+    fn buffers(&mut self) {
+        let most = if self.rng.chance(70) { 4 } else { 60 };
+        let mut bytes = vec![];
+        for _ in 0..self.rng.between(1, most) {
+            let line = if self.rng.chance(80) { self.command_line() } else { self.odd_bytes() };
+            let mut line = ended(line);
+            if self.rng.chance(15) {
+                self.damage(&mut line);
+            }
+            bytes.extend(line);
+        }
+        if self.rng.chance(30) {
+            bytes.truncate(self.rng.below(bytes.len() + 1));
+        }
+        let roomy = self.rng.chance(40);
+        if roomy {
+            self.say("room 4096");
+        }
+        self.send_in_buffers(&bytes);
+        if roomy {
+            self.say("room 256");
+        }
+    }
+
+    /// Cut at random, and now and then a piece as single bytes. Where the room runs out the rest comes again with another room, or is
+    /// lost.
+    fn send_in_buffers(&mut self, bytes: &[(u8, bool)]) {
+        let room = self.replay.room;
+        let mut rest = bytes;
+        while !rest.is_empty() {
+            let most = self.rng.pick(&[1, 5, 12, 40, 500, 500, 500]).min(rest.len());
+            let size = if self.rng.chance(40) { most } else { self.rng.below(most + 1) };
+            let (piece, after) = rest.split_at(size);
+            if self.rng.chance(10) {
+                self.send_marked(piece);
+                rest = after;
+                continue;
+            }
+            if self.rng.chance(50) {
+                let room = self.room_for(piece);
+                self.say(&format!("room {room}"));
+            }
+            let taken = self.send_buffer(piece);
+            if taken < size && self.rng.chance(50) {
+                self.look();
+            }
+            rest = if self.rng.chance(60) { &rest[taken..] } else { after };
+        }
+        if self.replay.room != room {
+            self.say(&format!("room {room}"));
+        }
+    }
+
+    /// A room at or beside one of the sums of the answers that are due, or any.
+    fn room_for(&mut self, bytes: &[(u8, bool)]) -> i128 {
+        if self.rng.chance(20) {
+            return self.rng.pick(&[0, 3, 17, 30, 256, 1024, 4095, 4096, 4096, 4096]);
+        }
+        let mut state = self.state();
+        let mut sums = vec![0];
+        for &(byte, good) in bytes {
+            let due = Module::default().byte(&self.replay.profile, &mut state, byte, u8::from(!good), &mut [0; 256]).n;
+            if due > 0 {
+                sums.push(sums[sums.len() - 1] + due as i128);
+            }
+        }
+        (self.rng.pick(&sums) + self.rng.pick(&[-1, 0, 0, 1])).clamp(0, 4096)
+    }
+
+    /// One whole-buffer call, now and then with a mark too few or too many; gives how many bytes it took.
+    fn send_buffer(&mut self, bytes: &[(u8, bool)]) -> usize {
+        let mut line = String::from(match self.rng.below(50) {
+            0 if !bytes.is_empty() => "w-",
+            1 => "w+",
+            _ => "w",
+        });
+        let lower = self.rng.chance(20);
+        for (byte, good) in bytes {
+            line += &if lower { format!(" {byte:02x}") } else { format!(" {byte:02X}") };
+            line += if *good { "" } else { "!" };
+        }
+        self.say(&line);
+        self.taken
+    }
+
+    /// A buffer at the limits of its lengths.
+    fn odd_buffer(&mut self) {
+        const BYTES: [&str; 7] = ["20", "53", "0D", "0A", "00", "ff", "0d"];
+        const COUNTS: [usize; 14] = [0, 1, 2, 64, 65, 255, 256, 257, 4095, 4096, 4097, 4097, 4098, 9999];
+        let byte = self.rng.pick(&BYTES);
+        let line = match self.rng.below(10) {
+            0 => "w".to_string(),
+            1 => "w+".to_string(),
+            2 => format!("w+ {byte}"),
+            3 => format!("w- {byte}"),
+            4 => format!("w- {byte} {byte}!"),
+            _ => run(self.rng.pick(&COUNTS), byte),
+        };
+        self.say(&line);
+    }
+
     // Rooms, profiles, texts.
 
     fn short_room(&mut self) {
@@ -609,7 +737,7 @@ impl Maker<'_> {
             0..=1 => self.rng.between(0, 3),
             2..=7 => self.rng.between(4, 30),
             8 => self.rng.between(242, 246),
-            _ => self.rng.pick(&[31, 48, 49, 50, 255, 256, 257, 1023, 1024]),
+            _ => self.rng.pick(&[31, 48, 49, 50, 255, 256, 257, 1024, 4095, 4096]),
         };
         self.say(&format!("room {room}"));
         for _ in 0..self.rng.between(1, 4) {
@@ -637,10 +765,10 @@ impl Maker<'_> {
         let with_texts = other.texts != former.texts;
         self.set_profile(&other, with_texts);
         for _ in 0..self.rng.between(1, 4) {
-            if self.rng.chance(40) {
-                self.sample();
-            } else {
-                self.command();
+            match self.rng.below(20) {
+                0..=7 => self.sample(),
+                8..=9 => self.odd_buffer(),
+                _ => self.command(),
             }
         }
         if self.rng.chance(20) {
@@ -694,7 +822,7 @@ impl Maker<'_> {
     }
 
     fn odd_script_line(&mut self) {
-        const LINES: [&str; 50] = [
+        const LINES: [&str; 64] = [
             "x",
             "on ",
             " on",
@@ -729,6 +857,20 @@ impl Maker<'_> {
             "b 41 ",
             "f",
             "f 0x",
+            "w ",
+            "w 4",
+            "w 41!!",
+            "w 41 !",
+            "w !41",
+            "w 41! ",
+            "w  41",
+            "W 41",
+            "w-",
+            "w- ",
+            "w+ ",
+            "w*",
+            "w* 41",
+            "w* 1 41",
             "profile",
             "profile 1 1 1 1 g 1",
             "profile 1 1 1 1 kg 1 1",
@@ -737,7 +879,7 @@ impl Maker<'_> {
             "profile 1 1 1 1 g 1 1 1",
             "profile 1 1 1 1 g -1 1",
             "room",
-            "room 1025",
+            "room 4097",
             "room -1",
             "room 10 ",
             "text 1 x",
@@ -759,7 +901,7 @@ impl Maker<'_> {
         }
         let line = if self.rng.chance(25) { self.sr_line() } else { self.rng.pick(&[b"S", b"T", b"T", b"Z", b"Z"]).to_vec() };
         self.send(line);
-        if self.state().waiting.is_some_and(|wait| wait.threshold.is_some()) && self.rng.chance(50) {
+        if self.state().waiting.is_some_and(|wait| wait.threshold.is_some()) && self.rng.chance(90) {
             self.other_profile();
         }
         self.wait_on();

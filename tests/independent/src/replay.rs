@@ -1,22 +1,35 @@
 //! The program replay of issue 6: a script in, the module's answers out.
 
+use crate::buffer::Taken;
 use crate::faults::Fault;
 use crate::module::{Line, Module, Outcome, Repetition, Sample, State, Wait};
 use crate::on_change::OnChange;
 use crate::profile::{Profile, TEXT_ROOMS};
+use crate::singly::Singly;
 use crate::tally::Call;
 use crate::weight::{Scale, Unit};
+use std::cell::OnceCell;
 
 const MOST: u64 = 4_294_967_295;
-/// What a lent buffer holds before a call, in the largest room.
-const LENT: [u8; 1024] = [0xA5; 1024];
+/// The largest room.
+const MOST_ROOM: usize = 4_096;
+/// What a lent buffer holds before a call.
+const LENT: [u8; MOST_ROOM] = [0xA5; MOST_ROOM];
 
-/// One call as the tally and the counters see it; no call is a power-on.
+/// One call as the tally and the counters see it.
 pub struct Event<'a> {
-    pub call: Option<Call>,
+    pub called: Called<'a>,
     pub profile: &'a Profile,
+    pub room: usize,
     pub refusal: u8,
     pub answer: &'a [u8],
+}
+
+#[derive(Clone, Copy)]
+pub enum Called<'a> {
+    On,
+    Single(Call),
+    Buffer(&'a Singly<'a>),
 }
 
 /// What a script line asks for.
@@ -28,6 +41,7 @@ enum Order {
     On,
     State,
     Calls(Vec<Call>),
+    Buffer { bytes: Vec<u8>, marks: Vec<u8> },
 }
 
 pub struct Replay {
@@ -56,7 +70,8 @@ impl Replay {
             Some(Order::Room(room)) => self.room = room,
             Some(Order::On) => self.on(out, watch),
             Some(Order::State) => out.extend(self.state.as_ref().map_or(b"?\r\n".to_vec(), state_line)),
-            Some(Order::Calls(_)) if self.state.is_none() => out.extend(b"?\r\n"),
+            Some(Order::Calls(_) | Order::Buffer { .. }) if self.state.is_none() => out.extend(b"?\r\n"),
+            Some(Order::Buffer { bytes, marks }) => self.buffer(&bytes, &marks, out, watch),
             Some(Order::Calls(calls)) => calls.into_iter().for_each(|call| self.call(call, out, watch)),
         }
     }
@@ -67,7 +82,7 @@ impl Replay {
         let outcome = self.module.power_on(&self.profile, &mut state, &mut buffer);
         let given_back = self.state.is_some() && self.module.fault != Some(Fault::RefusedOnForgetsState);
         self.state = (outcome.refusal == 0 || given_back).then_some(state);
-        self.tell(None, outcome, &buffer, out, watch);
+        self.tell(Called::On, outcome, "", &buffer, out, watch);
     }
 
     fn call(&mut self, call: Call, out: &mut Vec<u8>, watch: &mut dyn FnMut(&Event)) {
@@ -77,20 +92,40 @@ impl Replay {
             Call::Byte { byte, good } => self.module.byte(&self.profile, state, byte, u8::from(!good), &mut buffer),
             Call::Sample { load, stable } => self.module.sample(&self.profile, state, Sample { load, stable }, &mut buffer),
         };
-        self.tell(Some(call), outcome, &buffer, out, watch);
+        self.tell(Called::Single(call), outcome, "", &buffer, out, watch);
     }
 
-    fn tell(&self, call: Option<Call>, outcome: Outcome, buffer: &[u8], out: &mut Vec<u8>, watch: &mut dyn FnMut(&Event)) {
+    /// Says how many bytes were taken where those are not all.
+    fn buffer(&mut self, bytes: &[u8], marks: &[u8], out: &mut Vec<u8>, watch: &mut dyn FnMut(&Event)) {
+        let mut buffer = LENT[..self.room].to_vec();
+        let Some(state) = self.state.as_mut() else { return };
+        let (module, profile, given) = (self.module, &self.profile, state.clone());
+        let Taken { refusal, n, taken } = module.buffer(profile, state, bytes, marks, &mut buffer);
+        let singly = Singly { module, profile, given, bytes, marks, count: taken, answers: OnceCell::new() };
+        let took = if refusal == 0 && taken < bytes.len() { format!("took {taken}\r\n") } else { String::new() };
+        self.tell(Called::Buffer(&singly), Outcome { refusal, n }, &took, &buffer, out, watch);
+    }
+
+    fn tell(
+        &self,
+        called: Called,
+        outcome: Outcome,
+        took: &str,
+        buffer: &[u8],
+        out: &mut Vec<u8>,
+        watch: &mut dyn FnMut(&Event),
+    ) {
         let answer = &buffer[..outcome.n];
         if outcome.refusal == 0 {
             out.extend(answer);
         } else {
             out.extend(format!("refused {}\r\n", outcome.refusal).bytes());
         }
+        out.extend(took.bytes());
         if buffer[outcome.n..] != LENT[outcome.n..buffer.len()] {
             out.extend(b"spilt\r\n");
         }
-        watch(&Event { call, profile: &self.profile, refusal: outcome.refusal, answer });
+        watch(&Event { called, profile: &self.profile, room: self.room, refusal: outcome.refusal, answer });
     }
 }
 
@@ -166,14 +201,18 @@ fn order(line: &[u8]) -> Option<Order> {
     if line == b"state" {
         return Some(Order::State);
     }
+    if line == b"w" || line == b"w+" {
+        return buffer_order(line, None);
+    }
     let at = line.iter().position(|&byte| byte == b' ')?;
     let rest = &line[at + 1..];
     match &line[..at] {
         b"profile" => profile_order(rest),
         b"text" => text_order(rest),
-        b"room" => Some(Order::Room(number(rest, 1024)? as usize)),
+        b"room" => Some(Order::Room(number(rest, MOST_ROOM as u64)? as usize)),
         b"b" => bytes_order(rest, true),
         b"f" => bytes_order(rest, false),
+        word @ (b"w" | b"w-" | b"w+") => buffer_order(word, Some(rest)),
         b">" => Some(Order::Calls(rest.iter().chain(b"\r\n").map(|&byte| Call::Byte { byte, good: true }).collect())),
         b"s" => Some(Order::Calls(vec![Call::Sample { load: load(rest)?, stable: true }])),
         b"u" => Some(Order::Calls(vec![Call::Sample { load: load(rest)?, stable: false }])),
@@ -205,6 +244,28 @@ fn bytes_order(rest: &[u8], good: bool) -> Option<Order> {
     let words = rest.split(|&byte| byte == b' ');
     let bytes: Option<Vec<u8>> = words.map(hex).collect();
     Some(Order::Calls(bytes?.into_iter().map(|byte| Call::Byte { byte, good }).collect()))
+}
+
+/// One whole buffer: its bytes as in `b`, with `!` right after a faulty one. The mark of a faulty byte is 1 + its place mod 255, so
+/// that marks beyond 1 are tried. `w-` lends one mark fewer, and `w+` one more, which is 0. `w` and `w+` alone have no bytes; `w-`
+/// alone would have no mark to leave out.
+fn buffer_order(word: &[u8], rest: Option<&[u8]>) -> Option<Order> {
+    let words = rest.into_iter().flat_map(|rest| rest.split(|&byte| byte == b' '));
+    let marked: Option<Vec<(u8, u8)>> = words.enumerate().map(|(place, word)| marked_byte(place, word)).collect();
+    let (bytes, mut marks): (Vec<u8>, Vec<u8>) = marked?.into_iter().unzip();
+    match word {
+        b"w-" => drop(marks.pop()?),
+        b"w+" => marks.push(0),
+        _ => {}
+    }
+    Some(Order::Buffer { bytes, marks })
+}
+
+fn marked_byte(place: usize, word: &[u8]) -> Option<(u8, u8)> {
+    match word.strip_suffix(b"!") {
+        Some(word) => Some((hex(word)?, 1 + (place % 255) as u8)),
+        None => Some((hex(word)?, 0)),
+    }
 }
 
 fn hex(word: &[u8]) -> Option<u8> {

@@ -61,6 +61,11 @@ impl Follower {
         }
     }
 
+    /// Takes a whole-buffer call by the bytes that it took, each with its own answer.
+    pub fn take_all(&mut self, taken: &[(Call, Vec<u8>)]) -> Result<(), String> {
+        taken.iter().try_for_each(|(call, answer)| self.take(*call, 0, answer))
+    }
+
     // Samples.
 
     fn sample(&mut self, answer: &[u8]) -> Result<(), String> {

@@ -1,5 +1,6 @@
 //! Scripts and captures that go through every limit once, without chance.
 
+use crate::cases::run;
 use crate::compare::Script;
 use crate::module::COMMANDS;
 use crate::on_change::least_change;
@@ -13,6 +14,7 @@ pub fn scripts() -> Vec<Script> {
     scripts.extend(UNITS.map(threshold_limits));
     scripts.extend(scales().filter_map(changes));
     scripts.extend([names(), bytes(), lengths(), faults(), patience(), rooms(), repetition(), display()]);
+    scripts.extend([buffer_cuts(), buffer_rooms(), buffer_faults(), buffer_lengths(), buffer_refusals()]);
     scripts
 }
 
@@ -302,6 +304,80 @@ fn shown_then(display: &str, line: &str) -> Vec<String> {
         &[&display, &sent, "u 100", "u 200", "u 300"],
     ];
     ways.into_iter().flat_map(|way| ["on"].iter().chain(way)).map(|line| line.to_string()).collect()
+}
+
+// Whole buffers.
+
+/// A whole buffer of these bytes, with a faulty one at a place or none.
+fn whole(bytes: &[u8], faulty: Option<usize>) -> String {
+    let mark = |place| if Some(place) == faulty { "!" } else { "" };
+    let words = bytes.iter().enumerate().map(|(place, byte)| format!(" {byte:02X}{}", mark(place)));
+    format!("w{}", words.collect::<String>())
+}
+
+const LINES: &[u8] = b"DW\r\nTA 1 g\r\nS\rI\r\nTI\r\n\r\nSIR\r\nD \"A\"\r\nSR 1 g\r\n@\r\nQ\r\n";
+
+/// Some lines in two calls, cut at every place, the second call with whole buffers or single bytes.
+fn buffer_cuts() -> Script {
+    let single = |bytes: &[u8]| whole(bytes, None).replacen('w', "b", 1);
+    let cut = |at: usize| {
+        let (first, second) = LINES.split_at(at);
+        ["on".to_string(), "s 1000".to_string(), whole(first, None), whole(second, None), whole(first, None), single(second)]
+    };
+    script((0..LINES.len()).flat_map(cut))
+}
+
+/// Each command before a shorter and a longer answer in every room that is one off the answers, or near it; answered at once, or
+/// when it has waited.
+fn buffer_rooms() -> Script {
+    let sized = COMMANDS.iter().flat_map(|(name, _)| {
+        let rooms = if *name == "I0" { 242..274 } else { 0..48 };
+        rooms.flat_map(move |room| in_room(room, "s 1000", &format!("{name}\r\nQ\r\nI1\r\n")))
+    });
+    let waiting = ["S", "T", "Z", "SR"]
+        .into_iter()
+        .flat_map(|name| (0..32).flat_map(move |room| in_room(room, "u 1000", &format!("{name}\r\nSI\r\nI1\r\n"))));
+    script(sized.chain(waiting))
+}
+
+/// After a power-on and a sample these lines in one call, then the LF that it may have stopped before.
+fn in_room(room: usize, sample: &str, lines: &str) -> [String; 6] {
+    let sent = whole(lines.as_bytes(), None);
+    ["room 256".to_string(), "on".to_string(), sample.to_string(), format!("room {room}"), sent, "w 0A".to_string()]
+}
+
+/// A faulty byte at every place of some lines, and around the places where marks are 128, 255 and 1 again.
+fn buffer_faults() -> Script {
+    let short = (0..LINES.len()).map(|at| whole(LINES, Some(at)));
+    let long = [b"S".repeat(300), b"\r\nDW\r\n".to_vec()].concat();
+    let places = (125..130).chain(252..258);
+    script(short.chain(places.map(|at| whole(&long, Some(at)))))
+}
+
+/// Lengths up to 70 and around 4,096, with and without a line on its way, and with a mark too few and too many.
+fn buffer_lengths() -> Script {
+    let of_length = |n: usize| {
+        let all = |byte: &str| run(n, byte);
+        [all("53"), all("0D"), all("0A"), "b 53 0D".to_string(), all("0A"), all("0D"), all("20")]
+    };
+    let unequal = |n: usize| ["w-", "w+"].map(|word| format!("{word}{}", " 53".repeat(n)));
+    let lengths = (0..=70).chain(255..258).chain(4_093..4_100);
+    let others = (0..=3).chain(63..67).chain(4_094..4_099);
+    script(lengths.flat_map(of_length).chain(others.flat_map(unequal)))
+}
+
+/// Good and bad lengths on a profile and a state that are refused or not, in rooms that do and do not suffice.
+fn buffer_refusals() -> Script {
+    let profiles = ["220000000 1000000 4400000", "220000000 1000000 999", "0 0 4400000", "220000000 1000000 1000"];
+    let (full, long) = (&run(4_096, "20")[..], &run(4_097, "20")[..]);
+    let buffers = ["w", "w 51 0D 0A", "w- 51", "w+ 51", "w+", full, long];
+    let orders = profiles.into_iter().flat_map(move |profile| {
+        [0, 3, 4, 4_096].into_iter().flat_map(move |room| {
+            let set = [format!("profile {profile} 3 g 4 1"), format!("room {room}")];
+            set.into_iter().chain(buffers.map(String::from))
+        })
+    });
+    script(["s 1000", "> Z"].map(String::from).into_iter().chain(orders))
 }
 
 // Captures.

@@ -36,6 +36,11 @@ impl Tally {
         self.compare(answer)
     }
 
+    /// Takes a whole-buffer call by the bytes that it took, each with its own answer.
+    pub fn take_all(&mut self, taken: &[(Call, Vec<u8>)]) -> Result<(), String> {
+        taken.iter().try_for_each(|(call, answer)| self.take(*call, 0, answer))
+    }
+
     /// Line, load, zero and tare after a call that is not refused; gives the line that it ended, without its CR LF.
     pub fn follow(&mut self, call: Call, answer: &[u8]) -> Result<Option<Vec<(u8, bool)>>, String> {
         let ended = self.join(call);

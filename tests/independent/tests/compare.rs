@@ -82,20 +82,22 @@ fn compare_replay(path: &Path, seed: u64, calls: usize) {
     let swept = compare(&sweeps::scripts());
     let mut rng = Rng::new(seed);
     while compare(&(0..SCRIPTS_A_PROCESS).map(|_| script(&mut rng)).collect::<Vec<_>>()) < calls + swept {}
-    let [granted, one, two, three] = judge.refusals;
+    let [granted, one, two, three, _, five] = judge.refusals;
     note(&format!(
-        "replay: {} calls the same, {granted} granted, refused {one} with 1, {two} with 2, {three} with 3; {} weights judged",
+        "replay: {} calls the same, {granted} granted, refused {one} with 1, {two} with 2, {three} with 3, {five} with 5; \
+         {} weights judged",
         judge.calls, judge.weights
     ));
 }
 
-/// Fails with the shortest script in which the tally finds a wrong weight, or the follower of SR a wrong answer to a sample.
+/// Fails with the shortest script in which the tally finds a wrong weight, the follower of SR a wrong answer to a sample, or a whole
+/// buffer is taken otherwise than singly.
 fn assert_judged(judge: &Judge, scripts: &[Script]) {
-    let Some(fault) = judge.faults.iter().chain(&judge.strays).next() else { return };
+    let Some(fault) = judge.faults.iter().chain(&judge.strays).chain(&judge.apart).next() else { return };
     let found = shortest(&scripts.concat(), &mut |lines| {
         let mut judge = Judge::default();
         replay_with(Module::default(), &script_bytes(lines), &mut |event| judge.see(event));
-        !judge.faults.is_empty() || !judge.strays.is_empty()
+        !judge.faults.is_empty() || !judge.strays.is_empty() || !judge.apart.is_empty()
     });
     panic!("the tally or the follower finds a fault: {fault}\n{}", shown(&script_bytes(&found)));
 }

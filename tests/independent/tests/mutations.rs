@@ -94,6 +94,40 @@ const FOLLOWED: &[Fault] = &[
     Fault::LoneSpaceTaken,
 ];
 
+/// Faults of the whole-buffer call that answers, refusals and bytes taken show, so that its bytes taken singly have to notice them.
+const TAKEN_APART: &[Fault] = &[
+    Fault::LongBufferTaken,
+    Fault::LongBufferCut,
+    Fault::FullBufferRefused,
+    Fault::ExtraMarkIgnored,
+    Fault::MissingMarkGood,
+    Fault::MarksBeyondOneGood,
+    Fault::EvenMarksGood,
+    Fault::MarksAbove127Good,
+    Fault::MarksShifted,
+    Fault::FaultSpreads,
+    Fault::RoomNotShared,
+    Fault::RoomCutTo256,
+    Fault::BufferRoomOffByOne,
+    Fault::FullRoomStops,
+    Fault::EmptyAnswerNeedsRoom,
+    Fault::StopsAtFirstAnswer,
+    Fault::AnswersAtFront,
+    Fault::UnfitAnswerDropped,
+    Fault::UnfitByteSkipped,
+    Fault::UnfitByteTaken,
+    Fault::StoppingByteCounted,
+    Fault::StoppedAnswersDropped,
+    Fault::UnfitAnswerCounted,
+    Fault::StoppedBufferRefused,
+    Fault::FirstByteRefused,
+    Fault::StopUnsaid,
+    Fault::BufferStartsLine,
+    Fault::CrForgottenBetween,
+    Fault::CountInOneByte,
+    Fault::TakenInOneByte,
+];
+
 /// Faults that no answer shows, so that `state` alone has to.
 const SILENT: &[Fault] = &[
     Fault::DwKeepsText,
@@ -118,6 +152,7 @@ const SILENT: &[Fault] = &[
     Fault::RefusalOneShowsWeight,
     Fault::RefusalTwoShowsWeight,
     Fault::RefusalThreeShowsWeight,
+    Fault::RefusalFiveShowsWeight,
     Fault::RefusedOnShowsWeight,
     Fault::OverEmptiesLine,
     Fault::FaultyByteLeftOut,
@@ -206,6 +241,7 @@ fn a_difference_is_shown_by_a_short_script() {
         Fault::CountUnjudged,
         Fault::ResetKeepsText,
         Fault::OverEmptiesLine,
+        Fault::RoomNotShared,
     ] {
         let faulty = |input: &[u8]| replay_with(Module { fault: Some(fault) }, input, &mut |_| {});
         let shortest = difference(&scripts(SCRIPTS), script_bytes, &faulty, &replay).expect("a difference");
@@ -233,7 +269,7 @@ fn the_tally_notices_wrong_weights() {
     let inputs: Vec<Vec<u8>> = scripts(JUDGED_SCRIPTS).iter().map(|one| without_state(one)).collect();
     for input in &inputs {
         let judge = judged(None, input);
-        assert_eq!((judge.faults, judge.strays), (vec![], vec![]), "{}", shown(input));
+        assert_eq!((judge.faults, judge.strays, judge.apart), (vec![], vec![], vec![]), "{}", shown(input));
     }
     for &fault in JUDGED {
         assert!(inputs.iter().any(|input| !judged(Some(fault), input).faults.is_empty()), "{fault:?}");
@@ -245,5 +281,13 @@ fn the_follower_notices_what_sr_should_not_send() {
     let inputs: Vec<Vec<u8>> = scripts(JUDGED_SCRIPTS).iter().map(|one| without_state(one)).collect();
     let noticed = |fault| inputs.iter().any(|input| !judged(Some(fault), input).strays.is_empty());
     let unnoticed: Vec<Fault> = FOLLOWED.iter().copied().filter(|fault| !noticed(*fault)).collect();
+    assert!(unnoticed.is_empty(), "not noticed: {unnoticed:?}");
+}
+
+#[test]
+fn a_whole_buffer_is_judged_by_its_bytes_taken_singly() {
+    let inputs: Vec<Vec<u8>> = scripts(JUDGED_SCRIPTS).iter().map(|one| without_state(one)).collect();
+    let noticed = |fault| inputs.iter().any(|input| !judged(Some(fault), input).apart.is_empty());
+    let unnoticed: Vec<Fault> = TAKEN_APART.iter().copied().filter(|fault| !noticed(*fault)).collect();
     assert!(unnoticed.is_empty(), "not noticed: {unnoticed:?}");
 }

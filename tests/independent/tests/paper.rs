@@ -1,6 +1,7 @@
 //! The paper's cases on this implementation, and constructed states, readings and histories.
 
-use independent::cases;
+use independent::buffer::{Taken, MOST_BYTES};
+use independent::cases::{self, run};
 use independent::compare::shown;
 use independent::decode::decode;
 use independent::module::{Line, Module, Outcome, Repetition, Sample, State, Wait};
@@ -9,8 +10,10 @@ use independent::profile::Profile;
 use independent::reader::{line_of, write, Answer, Reader};
 use independent::replay::replay;
 use independent::sent_on_change::Follower;
+use independent::singly::Singly;
 use independent::tally::{Call, Tally};
 use independent::weight::{printed, Scale, Unit};
+use std::cell::OnceCell;
 
 const MODULE: Module = Module { fault: None };
 
@@ -58,6 +61,56 @@ fn texts_of_a_script() {
     let told = replay(script);
     assert_eq!(told, b"I4 A \"\"\r\n?\r\nI5 A \"\x80\xff\"\r\nrefused 1\r\nrefused 1\r\n");
 }
+
+/// Rooms go up to 4,096, and a `w` line has its bytes as `b` has them.
+#[test]
+fn the_forms_of_a_whole_buffer() {
+    let odd: [&str; 29] = [
+        "w ",
+        "w  ",
+        "w 5",
+        "w 530",
+        "w 53 ",
+        "w  53",
+        "w 53  0D",
+        "w 5G",
+        "w 53 0D 0",
+        "w 53,0D",
+        "w 53\r",
+        "W 53",
+        "w53",
+        "w!",
+        "w !",
+        "w 53 !",
+        "w !53",
+        "w 53!!",
+        "w 5!",
+        "w 53! ",
+        "w-",
+        "w- ",
+        "w-53",
+        "w- -",
+        "w+ ",
+        "w+53",
+        "w*",
+        "w* 53",
+        "w* 1 53",
+    ];
+    let script = odd.map(|line| format!("{line}\n")).concat();
+    assert_eq!(replay(format!("on\n{script}").as_bytes()), [ON, &b"?\r\n".repeat(odd.len())].concat());
+    let more = b"on\nw -\nroom 4097\nroom 00000000001\nw\t53\n";
+    assert_eq!(replay(more), [ON, &b"?\r\n".repeat(4)].concat());
+    let good = b"on\nroom 4096\nw 64 57 0d 0A\nw 44 57 0d 0a!\nw 0d 0a\nw 0D 0d\nw 0a\nw\n";
+    assert_eq!(replay(good), [ON, b"ES\r\nET\r\nES\r\n"].concat());
+}
+
+#[test]
+fn whole_buffers_before_power_on() {
+    let script = format!("w\nw 53\nw+\nw+ 53\nw- 53\n{}\nroom 15\non\nw 53\n", run(4_097, "53"));
+    assert_eq!(replay(script.as_bytes()), [&b"?\r\n".repeat(6)[..], b"refused 3\r\n?\r\n"].concat());
+}
+
+const ON: &[u8] = b"I4 A \"VA-0001\"\r\n";
 
 // The line `state`.
 
@@ -149,6 +202,15 @@ fn refusal_of(profile: &Profile, state: &State) -> u8 {
     let sample = MODULE.sample(profile, &mut other, Sample { load: 0, stable: true }, &mut [7; 256]);
     assert_eq!(byte.refusal, sample.refusal);
     assert!(byte.refusal == 0 || (&one == state && &other == state));
+    // A whole buffer has the same one, also if it is empty; 5 comes after.
+    let lengths = [(1, 1), (0, 0), (1, 0), (0, 1), (MOST_BYTES + 1, MOST_BYTES + 1)];
+    for (bytes, marks) in lengths {
+        let mut given = state.clone();
+        let taken = MODULE.buffer(profile, &mut given, &vec![b'S'; bytes], &vec![0; marks], &mut buffer);
+        let refusal = if byte.refusal == 0 && (bytes != marks || bytes > MOST_BYTES) { 5 } else { byte.refusal };
+        assert_eq!(taken, Taken { refusal, n: 0, taken: if refusal == 0 { bytes } else { 0 } });
+        assert!(buffer == [7; 256] && (taken.taken > 0 || &given == state));
+    }
     byte.refusal
 }
 
@@ -225,6 +287,114 @@ fn constructed_states_of_sr() {
         (2, State { latest: None, ..waiting(Some(0)) }),
         (2, State { waiting: Some(Wait { name: "SR", unstable: 3, threshold: None }), ..fine.clone() }),
     ]);
+}
+
+// Whole buffers.
+
+/// The call on a state that it may change, with as many good marks, in a room of sevens; gives the room too.
+fn taken_from(state: &mut State, bytes: &[u8], room: usize) -> (Taken, Vec<u8>) {
+    let mut buffer = vec![7; room];
+    let taken = MODULE.buffer(&Profile::a(), state, bytes, &vec![0; bytes.len()], &mut buffer);
+    (taken, buffer)
+}
+
+#[test]
+fn lengths_of_a_whole_buffer() {
+    let taken = |bytes: usize, marks: usize| {
+        let (mut state, mut room) = (State::default(), [7; 4]);
+        let taken = MODULE.buffer(&Profile::a(), &mut state, &vec![b'\n'; bytes], &vec![0; marks], &mut room);
+        assert!(room == [7; 4] && (taken.refusal == 0 || state == State::default()));
+        taken
+    };
+    for good in [0, 1, 2, 4_095, 4_096] {
+        assert_eq!(taken(good, good), Taken { refusal: 0, n: 0, taken: good });
+    }
+    for (bytes, marks) in [(0, 1), (1, 0), (1, 2), (2, 1), (4_096, 4_095), (4_095, 4_096), (4_096, 4_097), (4_097, 4_096)] {
+        assert_eq!(taken(bytes, marks), Taken { refusal: 5, n: 0, taken: 0 });
+    }
+    for long in [4_097, 4_098, 8_192, 65_536, 65_537] {
+        assert_eq!(taken(long, long), Taken { refusal: 5, n: 0, taken: 0 });
+    }
+}
+
+#[test]
+fn every_mark_but_0_is_faulty() {
+    let (bytes, mut room) = (b"S\r\n\r\n", [7; 5]);
+    for mark in 1..=255 {
+        let taken = MODULE.buffer(&Profile::a(), &mut State::default(), bytes, &[0, mark, 0, 0, 0], &mut room);
+        assert_eq!((taken, &room), (Taken { refusal: 0, n: 4, taken: 5 }, b"ET\r\n\x07"));
+    }
+}
+
+/// `S I` twice in every room: what is left of it is as before.
+#[test]
+fn rooms_of_a_whole_buffer() {
+    for room in 0..=12 {
+        let answers = room.min(10) / 5;
+        let (taken, told) = taken_from(&mut State::default(), b"SI\r\nSI\r\n", room);
+        let bytes = [3, 7, 8][answers];
+        assert_eq!(taken, Taken { refusal: 0, n: 5 * answers, taken: bytes }, "room {room}");
+        assert_eq!(told, [&b"S I\r\n".repeat(answers)[..], &vec![7; room - 5 * answers]].concat());
+    }
+    for (room, taken) in [(243, (0, 3)), (244, (244, 6)), (247, (244, 6)), (248, (248, 7))] {
+        let told = taken_from(&mut State::default(), b"I0\r\nQ\r\n", room).0;
+        assert_eq!((told.refusal, (told.n, told.taken)), (0, taken), "room {room}");
+    }
+}
+
+/// Cut in two anywhere, and stopped by any room and then sent on, a buffer gives the same answers and the same end.
+#[test]
+fn a_buffer_in_pieces() {
+    let bytes = b"DW\r\nS\rI\nD \"A\"\r\nTA 1 g\r\n\r\nSI\r\nI1\r\nSR\r\n@ \r\nSI\r\n@\r\nQ";
+    let started = State { latest: Some(Sample { load: 7, stable: false }), ..State::default() };
+    let mut ended = started.clone();
+    let (whole, answers) = taken_from(&mut ended, bytes, 256);
+    assert_eq!(whole.taken, bytes.len());
+    for cut in 0..=bytes.len() {
+        let mut state = started.clone();
+        let (first, one) = taken_from(&mut state, &bytes[..cut], 256);
+        let (second, other) = taken_from(&mut state, &bytes[cut..], 256);
+        assert_eq!([&one[..first.n], &other[..second.n]].concat(), &answers[..whole.n], "cut at {cut}");
+        assert_eq!(state, ended, "cut at {cut}");
+    }
+    for room in 0..=whole.n {
+        let mut state = started.clone();
+        let (first, one) = taken_from(&mut state, bytes, room);
+        let (second, other) = taken_from(&mut state, &bytes[first.taken..], 256);
+        assert_eq!([&one[..first.n], &other[..second.n]].concat(), &answers[..whole.n], "room {room}");
+        assert_eq!((first.taken + second.taken, &state), (bytes.len(), &ended), "room {room}");
+    }
+}
+
+/// From power-on: a whole buffer, the bytes that it took, and what it answered, in a room.
+fn judged_singly(bytes: &[u8], marks: usize, refusal: u8, taken: usize, room: usize, answer: &[u8]) -> Result<(), String> {
+    let (marks, profile, given) = (vec![0; marks], Profile::a(), State::default());
+    let singly =
+        Singly { module: MODULE, profile: &profile, given, bytes, marks: &marks, count: taken, answers: OnceCell::new() };
+    singly.judge(refusal, room, answer)
+}
+
+/// Each of these is followed by what it must not be.
+#[test]
+fn a_whole_buffer_beside_its_bytes_taken_singly() {
+    let twice = |taken, room, answer: &[u8]| judged_singly(b"SI\r\nSI\r\n", 8, 0, taken, room, answer);
+    assert_eq!(twice(8, 10, b"S I\r\nS I\r\n"), Ok(()));
+    assert!(twice(8, 10, b"S I\r\n").is_err(), "an answer is missing");
+    assert!(twice(8, 10, b"S I\r\nS L\r\n").is_err(), "another answer");
+    assert!(twice(7, 10, b"S I\r\n").is_err(), "the room does not run out");
+    assert_eq!(twice(7, 9, b"S I\r\n"), Ok(()));
+    assert!(twice(8, 9, b"S I\r\n").is_err(), "a byte is taken whose answer is lost");
+    assert!(twice(6, 9, b"S I\r\n").is_err(), "stopped before a byte that needs no room");
+    assert!(twice(3, 9, b"").is_err(), "stopped before an answer that fits");
+    assert_eq!(twice(3, 4, b""), Ok(()));
+    let lengths = |bytes: usize, marks, refusal| {
+        judged_singly(&vec![b'S'; bytes], marks, refusal, if refusal == 0 { bytes } else { 0 }, 4, b"")
+    };
+    assert_eq!((lengths(4_096, 4_096, 0), lengths(4_097, 4_097, 5)), (Ok(()), Ok(())));
+    assert!(lengths(4_096, 4_096, 5).is_err() && lengths(4_097, 4_097, 0).is_err());
+    assert_eq!((lengths(1, 1, 0), lengths(1, 0, 5), lengths(0, 1, 5), lengths(0, 0, 0)), (Ok(()), Ok(()), Ok(()), Ok(())));
+    assert!(lengths(1, 0, 0).is_err() && lengths(0, 1, 0).is_err() && lengths(0, 0, 5).is_err());
+    assert!(lengths(1, 1, 3).is_err() && lengths(1, 1, 4).is_err());
 }
 
 #[test]
@@ -318,6 +488,38 @@ fn the_tally_follows_zero_and_tare() {
     assert!(tallied(&[("TA 1.5 g", "TA A     1.5000 g"), ("1500048", ""), ("S", "S S     0.0001 g")]).is_err());
     assert!(tallied(&[("70000", ""), ("T", "T S     0.0700 g"), ("@", "I4 A \"\""), ("S", "S S     0.0700 g")]).is_ok());
     assert!(tallied(&[("70000", ""), ("T", "T S     0.0700 g"), ("@", "I4 A \"\""), ("S", "S S     0.0000 g")]).is_err());
+}
+
+/// The bytes of a whole buffer that were taken, each with its own answer: that of the first line and that of the second.
+fn two_lines(first: &[u8], one: &str, second: &[u8], other: &str) -> Vec<(Call, Vec<u8>)> {
+    let bytes = |line: &[u8]| line.iter().map(|&byte| (Call::Byte { byte, good: true }, vec![])).collect::<Vec<_>>();
+    let (mut taken, more) = (bytes(first), bytes(second));
+    taken.last_mut().expect("a byte").1 = one.as_bytes().to_vec();
+    taken.extend(more);
+    taken.last_mut().expect("a byte").1 = other.as_bytes().to_vec();
+    taken
+}
+
+/// A whole buffer is the bytes that it took: no other, and each with its answer.
+#[test]
+fn the_tally_takes_a_whole_buffer_by_its_bytes() {
+    let after = |taken: &[(Call, Vec<u8>)], next: &str| {
+        let mut tally = Tally::new(&Profile::a());
+        tally.take(Call::Sample { load: 5_000, stable: true }, 0, b"")?;
+        tally.take_all(taken)?;
+        tally.take(Call::Byte { byte: b'\n', good: true }, 0, next.as_bytes())
+    };
+    let tared = "T S     0.0050 g\r\n";
+    let whole = two_lines(b"T\r\n", tared, b"SI\r\n", "S S     0.0000 g\r\n");
+    assert_eq!(after(&whole, ""), Ok(()));
+    assert!(after(&two_lines(b"T\r\n", tared, b"SI\r\n", "S S     0.0050 g\r\n"), "").is_err(), "the tare counts in one call");
+    assert!(after(&two_lines(b"SI\r\n", tared, b"T\r\n", "S S     0.0050 g\r\n"), "").is_err(), "answers in the other order");
+    // Stopped before the last LF: the line goes on with the next call, and what was not taken is no part of it.
+    let stopped = &two_lines(b"T\r\n", tared, b"TA 1 g\r", "")[..];
+    assert_eq!(after(stopped, "TA A     1.0000 g\r\n"), Ok(()));
+    assert!(after(stopped, "TA A     0.0050 g\r\n").is_err(), "the line is not begun anew");
+    let past = two_lines(b"T\r\n", tared, b"TA 1 g\r\n", "");
+    assert!(after(&past, "TA A     1.0000 g\r\n").is_err(), "a byte that was not taken counts for none");
 }
 
 // The follower of SR.
@@ -443,6 +645,29 @@ fn the_follower_reads_thresholds_and_tares() {
     only_last_when_started(&[("TA 0.003 g", "TA A     0.0030 g"), ("s 0", "S S    -0.0030 g")], &[""]);
     only_last_when_started(&[("TA 0.002999 g", "TA A     0.0030 g"), ("s 0", "")], &["S S    -0.0030 g"]);
     only_last_when_started(&[("TA 1 g", "TA A     1.0000 g"), ("TAC", "TAC A"), ("s 0", "")], &["S S    -1.0000 g"]);
+}
+
+/// A whole buffer is the bytes that it took: no other, and each with its answer.
+#[test]
+fn the_follower_takes_a_whole_buffer_by_its_bytes() {
+    let after = |taken: &[(Call, Vec<u8>)], load: i32, sent: &str| {
+        let mut follower = Follower::new(&Profile::a());
+        follower.take(Call::Sample { load: 0, stable: true }, 0, b"")?;
+        follower.take_all(taken)?;
+        follower.take(Call::Sample { load, stable: true }, 0, sent.as_bytes())
+    };
+    let (zero, moved) = ("S S     0.0000 g\r\n", "S S     0.0030 g\r\n");
+    let started = two_lines(b"SI\r\n", zero, b"SR\r\n", zero);
+    assert_eq!(after(&started, 3_000, moved), Ok(()));
+    assert!(after(&started, 3_000, "").is_err(), "SR runs");
+    assert!(after(&two_lines(b"SI\r\n", zero, b"SR\r\n", ""), 3_000, "").is_err(), "the second line is not answered");
+    // The second of them ended SR, or was not taken to its end.
+    let ended = two_lines(b"SR\r\n", zero, b"SI\r\n", zero);
+    assert_eq!(after(&ended, 3_000, ""), Ok(()));
+    assert!(after(&ended, 3_000, moved).is_err(), "SI ended SR");
+    let stopped = two_lines(b"SR\r\n", zero, b"SI\r", "");
+    assert_eq!(after(&stopped, 3_000, moved), Ok(()));
+    assert!(after(&stopped, 3_000, "").is_err(), "a byte that was not taken ends nothing");
 }
 
 /// A refused call changes nothing, and a byte that ends no line is not answered.

@@ -1,13 +1,14 @@
-//! The module: power-on, the byte call and the sample call, with their refusals 1, 2 and 3.
+//! The module: power-on, the byte call, the sample call and the whole-buffer call, with their refusals 1, 2, 3 and 5.
 
 use super::command::{Command, Error, Status, LIST, VERSIONS};
 use super::profile::{is_printable, Profile, Text};
 use super::weight::{put_field, typed};
-use crate::feed::Outcome;
+use crate::feed::{Outcome, Taken};
 
 const CR: u8 = 13;
 const LF: u8 = 10;
 const LINE: usize = 64;
+const MOST_BYTES: usize = 4_096;
 
 /// The line being received.
 #[derive(Clone, Debug)]
@@ -45,6 +46,17 @@ impl Line {
             }
             None => self.over = true,
         }
+    }
+
+    /// Bytes without a CR, and with none before them that may end the line: as many as there is place for, in one copy. No mark ends
+    /// the test of the marks early, so that several are tested at once.
+    fn join_run(&mut self, bytes: &[u8], marks: &[u8]) {
+        let free = &mut self.bytes[usize::from(self.len)..];
+        let count = bytes.len().min(free.len());
+        free[..count].copy_from_slice(&bytes[..count]);
+        self.len += count as u8;
+        self.over |= count < bytes.len();
+        self.faulty |= marks.iter().fold(0, |any, mark| any | mark) != 0;
     }
 
     fn clear(&mut self) {
@@ -173,19 +185,55 @@ pub fn byte(profile: &Profile, state: &mut State, byte: u8, faulty: bool, out: &
         state.line.join(byte, faulty);
         return done(0);
     }
+    end_line(profile, state, out).map_or(refused(3), done)
+}
+
+/// The answer to the line that a byte ends; none, and the state as it was, where the buffer is shorter.
+fn end_line(profile: &Profile, state: &mut State, out: &mut [u8]) -> Option<usize> {
     let line = &state.line;
     let text = &line.bytes[..usize::from(line.len)];
     let mut next = state.weighing;
     let mut shown = None;
     let answer = judge(profile, line, text, &mut next, &mut shown);
-    let Some(count) = put(answer, profile, out) else { return refused(3) };
+    let count = put(answer, profile, out)?;
     if let Some(shown) = shown {
         state.text.bytes[..shown.len()].copy_from_slice(shown);
         state.text.len = shown.len() as u8;
     }
     state.weighing = next;
     state.line.clear();
-    done(count)
+    Some(count)
+}
+
+/// Profile and state are tested once; no byte makes a state that is not allowed.
+pub fn take_bytes(profile: &Profile, state: &mut State, bytes: &[u8], marks: &[u8], out: &mut [u8]) -> Taken {
+    let refused = |refusal| Taken { refusal, count: 0, taken: 0 };
+    if !profile.is_allowed() {
+        return refused(1);
+    }
+    if !state.is_allowed(profile) {
+        return refused(2);
+    }
+    if bytes.len() != marks.len() || bytes.len() > MOST_BYTES {
+        return refused(5);
+    }
+    let (mut count, mut taken) = (0, 0);
+    while let (Some(&byte), Some(&mark)) = (bytes.get(taken), marks.get(taken)) {
+        if state.line.is_ended_by(byte, mark != 0) {
+            let Some(more) = end_line(profile, state, &mut out[count..]) else { break };
+            count += more;
+            taken += 1;
+        } else if state.line.returned || byte == CR {
+            state.line.join(byte, mark != 0);
+            taken += 1;
+        } else {
+            let rest = &bytes[taken..];
+            let run = rest.iter().position(|&byte| byte == CR).unwrap_or(rest.len());
+            state.line.join_run(&rest[..run], &marks[taken..taken + run]);
+            taken += run;
+        }
+    }
+    Taken { refusal: 0, count, taken }
 }
 
 pub fn sample(profile: &Profile, state: &mut State, load: i32, stable: bool, out: &mut [u8]) -> Outcome {

@@ -1,7 +1,7 @@
 -- `script::order::order_of` meets its contract.
 -- Assumes nothing.
 use borrow.Author.Needs.{needs}
-use Rattle.script.proofs.Ordering.{one-word, passed-over, power-line, state-line, worded-line}
+use Rattle.script.proofs.Ordering.{buffer-line, one-word, passed-over, power-line, state-line, worded-line}
 use Rattle.script.proofs.order.order_of.Statement.{statement}
 use Rattle.script.proofs.order.order_of.Tie as tie
 
@@ -29,17 +29,23 @@ same-text-requires-2 c κs = search needs
 returns-3 : tie.Need-returns-3
 returns-3 c = search (needs, state-line)
 
+buffer-order-requires : tie.Need-buffer-order-requires
+buffer-order-requires c κs = search needs
+
+returns-4 : tie.Need-returns-4
+returns-4 c = search (needs, buffer-line)
+
 first-at-requires : tie.Need-first-at-requires
 first-at-requires c κs = search needs
 
 named-order-requires : tie.Need-named-order-requires
 named-order-requires c κs = search needs
 
-returns-4 : tie.Need-returns-4
-returns-4 c = search (needs, worded-line)
-
 returns-5 : tie.Need-returns-5
-returns-5 c = search (needs, one-word)
+returns-5 c = search (needs, worded-line)
+
+returns-6 : tie.Need-returns-6
+returns-6 c = search (needs, one-word)
 
 pub order-of-spec : {M : Type 1} → statement M
 order-of-spec =
@@ -53,7 +59,9 @@ order-of-spec =
     slice-aggregate-same-text-2
     same-text-requires-2
     returns-3
+    buffer-order-requires
+    returns-4
     first-at-requires
     named-order-requires
-    returns-4
-    returns-5)
+    returns-5
+    returns-6)

@@ -15,7 +15,7 @@ use Rattle.line.specs.declared.receive.Held.{Held}
 use Rattle.line.specs.declared.receive.Line.{Line}
 use Rattle.line.specs.declared.run.Run.{Run}
 use Rattle.line.specs.Receiving.{continuedLine, endsLine, receivedByte, carriageReturn, lineLimit}
-use Rattle.line.specs.Runs.{markedBy, markedBytes, oneMore, receivedRun, anyFaulty, lineWith, afterBytes, SoFar, PassedSoFar}
+use Rattle.line.specs.Runs.{markedBy, markedBytes, oneMore, receivedRun, anyMarkSet, lineWith, afterBytes, SoFar, PassedSoFar}
 use Rattle.line.specs.Unbounded.{Marked}
 use Rattle.line.proofs.Joining.{settled-before, over-before, joins-full, joins-next}
 use Rattle.text.specs.Searching.{beforeFirst, hasByte, FirstAt}
@@ -109,19 +109,19 @@ module _ (l : Line) (ms : List Marked) where
 -- ---- marks
 
 -- those from a place on
-pub any-from : (i : ℕ) (ks : List ℕ) → i < length ks → anyFaulty (drop i ks) ≡ (not (eqb (getD ks i 0) 0) || anyFaulty (drop (suc i) ks))
+pub any-from : (i : ℕ) (ks : List ℕ) → i < length ks → anyMarkSet (drop i ks) ≡ (not (eqb (getD ks i 0) 0) || anyMarkSet (drop (suc i) ks))
 any-from i [] h = absurd (omega arith)
 any-from zero (k ∷ ks) h = refl
 any-from (suc i) (k ∷ ks) h = any-from i ks (omega arith)
 
 -- one more is looked at
-pub any-step : (ks : List ℕ) (i : ℕ) (any : Bool) → i < length ks → anyFaulty ks ≡ (any || anyFaulty (drop i ks))
-    → anyFaulty ks ≡ ((any || not (eqb (getD ks i 0) 0)) || anyFaulty (drop (i + 1) ks))
+pub any-step : (ks : List ℕ) (i : ℕ) (any : Bool) → i < length ks → anyMarkSet ks ≡ (any || anyMarkSet (drop i ks))
+    → anyMarkSet ks ≡ ((any || not (eqb (getD ks i 0) 0)) || anyMarkSet (drop (i + 1) ks))
 any-step ks i any h e =
-    e ∙ ap (λ (x : Bool). any || x) (any-from i ks h) ∙ sym (or-assoc any (not (eqb (getD ks i 0) 0)) (anyFaulty (drop (suc i) ks))) ∙ rw (add-one i)
+    e ∙ ap (λ (x : Bool). any || x) (any-from i ks h) ∙ sym (or-assoc any (not (eqb (getD ks i 0) 0)) (anyMarkSet (drop (suc i) ks))) ∙ rw (add-one i)
 
 -- all were
-pub any-all : (ks : List ℕ) (i : ℕ) (any : Bool) → length ks ≤ i → anyFaulty ks ≡ (any || anyFaulty (drop i ks)) → any ≡ anyFaulty ks
+pub any-all : (ks : List ℕ) (i : ℕ) (any : Bool) → length ks ≤ i → anyMarkSet ks ≡ (any || anyMarkSet (drop i ks)) → any ≡ anyMarkSet ks
 any-all ks i any h e = sym (e ∙ rw (drop-of-length-le ks h, or-false any))
 
 -- ---- bytes other than CR, with no CR kept apart before them
@@ -243,7 +243,7 @@ passed-more h n bad any = rw (lt-ltb 0 (suc n) (omega arith), or-true (h .over),
 passed : (cells : List ℕ) (h : Held) (n : ℕ) (bs ks : List ℕ) → h .returned ≡ false → lineLimit ≤ h .len → n ≤ length bs → n ≤ length ks
     → hasByte carriageReturn (take n bs) ≡ false
     → receivedRun (lineWith cells h) (markedBytes bs ks)
-    ≡ afterBytes n (receivedRun (lineWith cells (passedBy h n (anyFaulty (take n ks)))) (drop n (markedBytes bs ks)))
+    ≡ afterBytes n (receivedRun (lineWith cells (passedBy h n (anyMarkSet (take n ks)))) (drop n (markedBytes bs ks)))
 unfolding markedBytes
 passed cells h zero bs ks e full inB inK none =
     none-yet (lineWith cells h) (markedBytes bs ks) .same
@@ -255,7 +255,7 @@ passed cells h (suc n) (b ∷ bs) (k ∷ ks) e full inB inK none =
     let l : Line = lineWith cells h in
     let rest : List Marked = markedBytes bs ks in
     let next : Held = record { len = h .len; over = true; faulty = h .faulty || bad; returned = false } in
-    let any : Bool = anyFaulty (take n ks) in
+    let any : Bool = anyMarkSet (take n ks) in
     let two = neither (eqb b carriageReturn) (hasByte carriageReturn (take n bs)) none in
     let after : Run = receivedRun (lineWith cells (passedBy next n any)) (drop n rest) in
     one-joined l (markedBy b k) rest refl (no-end l b bad e (two .0))
@@ -265,7 +265,7 @@ passed cells h (suc n) (b ∷ bs) (k ∷ ks) e full inB inK none =
     ∙ ap (λ (x : Held). afterBytes (suc n) (receivedRun (lineWith cells x) (drop n rest))) (passed-more h n bad any)
 
 pub passed-so-far : (h : Held) (n : ℕ) (bs ks : List ℕ) → h .returned ≡ false → lineLimit ≤ h .len → length bs ≡ length ks → FirstAt carriageReturn bs n
-    → {any : Bool} → any ≡ anyFaulty (take n ks) → PassedSoFar h (markedBytes bs ks) (passedBy h n any) n
+    → {any : Bool} → any ≡ anyMarkSet (take n ks) → PassedSoFar h (markedBytes bs ks) (passedBy h n any) n
 passed-so-far h n bs ks e full equal first {any} f cells =
     record {
       within = marked-within bs ks n (first .in-text) (omega (arith, first .in-text, equal));

@@ -49,10 +49,10 @@ lineWith cells h = record { bytes = cells; len = h .len; over = h .over; faulty 
 abbrev pub runWith : List ℕ → Held → ℕ → Bool → Run
 runWith cells h taken ended = record { line = lineWith cells h; taken = taken; ended = ended }
 
--- one of the marks is that of a faulty byte
-abbrev pub anyFaulty : List ℕ → Bool
-anyFaulty [] = false
-anyFaulty (m ∷ ms) = not (eqb m 0) || anyFaulty ms
+-- one of the marks is not 0, and so is that of a faulty byte
+abbrev pub anyMarkSet : List ℕ → Bool
+anyMarkSet [] = false
+anyMarkSet (m ∷ ms) = not (eqb m 0) || anyMarkSet ms
 
 -- n bytes joined it before
 abbrev pub afterBytes : ℕ → Run → Run

@@ -5,7 +5,7 @@ ghost use mathlib.Core.Bool.{false};
 ghost use Prim.Native.Nat.{_+_, _≤_};
 ghost use lib.ListN.{length};
 ghost use Rattle.line.specs.Receiving.{lineLimit};
-ghost use Rattle.line.specs.Runs.{markedBytes, receivedRun, anyFaulty, lineWith, runWith, SoFar, PassedSoFar};
+ghost use Rattle.line.specs.Runs.{markedBytes, receivedRun, anyMarkSet, lineWith, runWith, SoFar, PassedSoFar};
 use crate::receive::CARRIAGE_RETURN;
 use crate::receive::Held;
 use crate::receive::LINE_LIMIT;
@@ -49,7 +49,7 @@ fn marked_count(bytes: &[u8], marks: &[u8]) -> usize
 
 // Whether one of them is that of a faulty byte. Every mark is looked at, so that several are tested at once.
 fn any_faulty(marks: &[u8]) -> bool
-    ensures { λ r. ⌜ r ≡ anyFaulty (now (marks .entry)) ⌝ }
+    ensures { λ r. ⌜ r ≡ anyMarkSet (now (marks .entry)) ⌝ }
 {
     let mut any = false;
     let mut i = 0;

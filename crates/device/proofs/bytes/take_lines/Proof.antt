@@ -61,7 +61,6 @@ add-at c =
     let bs = start .args .bytes .now in
     let ks = start .args .marks .now in
     let equal = start .pre .1 .1 in
-    let got = run .receive-run .result in
     record { fits = omega (arith, run-within _ (start .pre .0) (at .state) (at .inv .3 .allowed) (at .inv .2) _ (start .args .out .now) (run .receive-run .ensures) refl, rest-counted bs ks (at .at) equal, at .inv .0, start .good .1 .1 .0) }
 
 taken-bytes-requires : tie.Need-taken-bytes-requires Inv-loop μ-loop
@@ -152,7 +151,6 @@ add-count c =
     let h =
     next-turn _ _ bs ks _ equal now (turnOf (c .before .before .before .before .before .before .before .before .line-reaction .result .state) (c .before .before .before .before .before .before .emit-due .result .count) (got .taken + 1) false) (at .out) _ (at .inv .0) refl (at .inv .3)
     (line-answered _ (start .pre .0) (at .state) (at .inv .3 .allowed) (at .inv .2) _ _ (run .receive-run .ensures) refl (not-false _ (c .before .before .before .before .before .before .before .before .before .if1 .left)) (c .before .before .before .before .before .before .before .before .line-reaction .ensures) (c .before .before .before .before .before .before .emit-due .ensures .0) (c .before .before .before .before .before .before .emit-due .ensures .1) (not-false _ (c .before .before .if2 .left)) refl) in
-    let counted = fewer-bytes bs ks (omega (arith, equal)) in
     record { fits = omega (arith, h .0 .written, h .0 .long, start .good .1 .1 .1 .1 .0) }
 
 add-at-2 : tie.Need-add-at-2 Inv-loop μ-loop
@@ -173,15 +171,7 @@ add-at-2 c =
     record { fits = omega (arith, h .0 .within, counted, start .good .1 .1 .0) }
 
 loop-less : tie.Need-loop-less Inv-loop μ-loop
-loop-less c =
-    let run = c .before .before .before .before .before .before .before .before .before .before .before .before .before in
-    let at = run .before .before .before .before .before .loop in
-    let start = run .before .before .before .before .before .before .before .before .before in
-    let bs = start .args .bytes .now in
-    let ks = start .args .marks .now in
-    let equal = start .pre .1 .1 in
-    let got = run .receive-run .result in
-    omega (arith, run .before .before .before .before .loop-test .taken)
+loop-less c = omega (arith, c .before .before .before .before .before .before .before .before .before .before .before .before .before .before .before .before .before .loop-test .taken)
 
 loop-again : tie.Need-loop-again Inv-loop μ-loop
 loop-again c =

@@ -5,13 +5,13 @@ use mathlib.Core.Path.{_≡_, refl}
 use mathlib.Core.Bool.{_||_}
 use borrow.Author.Needs.{needs}
 use lib.ListN.{length, drop}
-use Rattle.line.specs.Runs.{anyFaulty}
+use Rattle.line.specs.Runs.{anyMarkSet}
 use Rattle.line.proofs.Running.{any-step, any-all}
 use Rattle.line.proofs.run.any_faulty.Statement.{statement}
 use Rattle.line.proofs.run.any_faulty.Tie as tie
 
 abbrev Inv-loop : tie.InvT-loop
-Inv-loop marks any₀ i₀ any i = anyFaulty marks ≡ (any || anyFaulty (drop i marks))
+Inv-loop marks any₀ i₀ any i = anyMarkSet marks ≡ (any || anyMarkSet (drop i marks))
 
 abbrev μ-loop : tie.MeasureT-loop
 μ-loop marks any₀ i₀ any i = length marks - i

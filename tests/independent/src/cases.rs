@@ -1,6 +1,8 @@
 //! The bench cases of document 01, the corners of document 02's requests, the worked examples of the manuals and some states, as
 //! scripts with what they print.
 
+use crate::weight::{Scale, Unit};
+
 pub struct Case {
     pub name: &'static str,
     pub script: String,
@@ -33,7 +35,8 @@ pub fn all() -> Vec<Case> {
     let base = [printing(), ranges(), zeroing_and_taring(), waiting(), lines(), profiles(), states(), manuals()];
     let on_change = [sr_lines(), sr_starts_and_ends(), sr_memory(), sr_passed_over(), sr_thresholds(), sr_refusals()];
     let buffers = [buffer_lines(), buffer_marks(), buffer_rooms(), buffer_lengths(), buffer_refusals()];
-    base.into_iter().chain(on_change).chain(buffers).flatten().collect()
+    let typed = [typed_to_steps(), typed_to_micrograms(), typed_limits(), typed_thresholds()];
+    base.into_iter().chain(on_change).chain(buffers).chain(typed).flatten().collect()
 }
 
 fn printing() -> Vec<Case> {
@@ -76,7 +79,7 @@ fn zeroing_and_taring() -> Vec<Case> {
         on_a("a typed tare", &["> TA 100.00 g", "> TA"], &["TA A   100.0000 g", "TA A   100.0000 g"]),
         on_a(
             "typed tares refused",
-            &["> TA -1 g", "> TA 220.000001 g", "> TA 100.00 G", "> TA 1. g", "> TA ", "> TA 1  g", "> TA"],
+            &["> TA -1 g", "> TA 220.00005 g", "> TA 100.00 G", "> TA 1. g", "> TA ", "> TA 1  g", "> TA"],
             &["TA L", "TA L", "TA L", "TA L", "TA L", "TA L", "TA A     0.0000 g"],
         ),
         on_a("typed at capacity", &["> TA 0220.00000 g", "> TAC", "> TA"], &["TA A   220.0000 g", "TAC A", "TA A     0.0000 g"]),
@@ -229,7 +232,7 @@ fn states() -> Vec<Case> {
 
 // Document 02, No. 1: send on change.
 
-/// Identification S, always; the parameter is read as TA reads its number.
+/// Identification S, always; the parameter has the form of TA's.
 fn sr_lines() -> Vec<Case> {
     let milligrams = "profile 99999999 0 4400000 3 mg 3 1";
     let waits = |set: &str| format!("state zero 0 tare 0 sample none waits SR 0 {set} repeats no shows weight line 0");
@@ -806,6 +809,236 @@ fn buffer_refusals() -> Vec<Case> {
             "3 is the byte call's alone",
             &["room 3", &whole("Q\r\n"), "b 0A", "w 0A", "room 4", "w 0A"],
             &["took 2", "refused 3", "took 0", "ES"],
+        ),
+    ]
+}
+
+// Document 02, No. 3: a typed tare has readable places only.
+
+const GRAMS_IN_FIVES: &str = "profile 1000000000 0 0 3 g 0 5";
+const OUNCES_IN_FIVES: &str = "profile 1000000000 0 0 3 oz 0 5";
+const OUNCES: &str = "profile 220000000 1000000 4400000 3 oz 5 1";
+
+/// The state after power-on with this tare.
+fn tared(tare: u32) -> String {
+    format!("state zero 0 tare {tare} sample none waits none repeats no shows weight line 0")
+}
+
+/// The first rounding, to the display step.
+fn typed_to_steps() -> Vec<Case> {
+    let fives = "profile 220000000 1000000 4400000 3 g 4 5";
+    let twos = "profile 220000000 1000000 4400000 3 g 4 2";
+    let millionths = "profile 9999999 0 0 3 g 6 5";
+    vec![
+        on_a("half a step", &["> TA 0.00005 g", "state"], &["TA A     0.0001 g", &tared(100)]),
+        on_a(
+            "below half a step",
+            &["> TA 1 g", "> TA 0.000049 g", "state"],
+            &["TA A     1.0000 g", "TA A     0.0000 g", &tared(0)],
+        ),
+        on_a(
+            "up to six decimals",
+            &["> TA 123.45675 g", "state", "> TA 123.456749 g", "state", "> TA", "> TA 123.4567 g"],
+            &[
+                "TA A   123.4568 g",
+                &tared(123_456_800),
+                "TA A   123.4567 g",
+                &tared(123_456_700),
+                "TA A   123.4567 g",
+                "TA A   123.4567 g",
+            ],
+        ),
+        on_a(
+            "the rounded tare is subtracted",
+            &["> TA 0.000049 g", "s 9999951", "> SI", "> TA 0.00005 g", "> SI", "s 49", "> SI", "s 50", "> SI"],
+            &[
+                "TA A     0.0000 g",
+                "S S    10.0000 g",
+                "TA A     0.0001 g",
+                "S S     9.9999 g",
+                "S S    -0.0001 g",
+                "S S    -0.0001 g",
+            ],
+        ),
+        on_profile("steps of five, half of one", fives, &["> TA 0.00025 g", "state"], &["TA A     0.0005 g", &tared(500)]),
+        on_profile("steps of five, below half of one", fives, &["> TA 0.000249 g", "state"], &["TA A     0.0000 g", &tared(0)]),
+        on_profile(
+            "steps of five, whole places between",
+            fives,
+            &["> TA 1.0002 g", "> TA 1.0003 g", "> TA 1.0007 g", "> TA 1.00075 g", "> TA 1.0008 g"],
+            &["TA A     1.0000 g", "TA A     1.0005 g", "TA A     1.0005 g", "TA A     1.0010 g", "TA A     1.0010 g"],
+        ),
+        on_profile(
+            "steps of two",
+            twos,
+            &["> TA 1.0001 g", "> TA 1.000099 g", "> TA 1.0003 g", "> TA 1.000299 g"],
+            &["TA A     1.0002 g", "TA A     1.0000 g", "TA A     1.0004 g", "TA A     1.0002 g"],
+        ),
+        on_profile(
+            "as many decimals as can be typed",
+            millionths,
+            &["> TA 0.000002 g", "> TA 0.000003 g", "> TA 1.000007 g", "> TA 1.000008 g"],
+            &["TA A   0.000000 g", "TA A   0.000005 g", "TA A   1.000005 g", "TA A   1.000010 g"],
+        ),
+        on_profile(
+            "no decimals",
+            "profile 220000000 1000000 4400000 3 g 0 1",
+            &["> TA 0.499999 g", "> TA 0.5 g", "state", "> TA 219.5 g", "> TA 220.499999 g", "> TA 220.5 g"],
+            &["TA A          0 g", "TA A          1 g", &tared(1_000_000), "TA A        220 g", "TA A        220 g", "TA L"],
+        ),
+    ]
+}
+
+/// The second rounding, to the microgram.
+fn typed_to_micrograms() -> Vec<Case> {
+    vec![
+        on_profile(
+            "half a microgram",
+            OUNCES,
+            &["> TA 4 oz", "state", "s 113398234", "> SI", "s 113398235", "> SI"],
+            &["TA A    4.00000 oz", &tared(113_398_093), "S S    0.00000 oz", "S S    0.00001 oz"],
+        ),
+        on_profile("both roundings", OUNCES, &["> TA 1.000005 oz", "state"], &["TA A    1.00001 oz", &tared(28_349_807)]),
+        on_profile(
+            "both roundings, a tie in each",
+            OUNCES,
+            &["> TA 3.999995 oz", "state"],
+            &["TA A    4.00000 oz", &tared(113_398_093)],
+        ),
+        on_profile(
+            "a first rounding that misses the tie",
+            OUNCES,
+            &["> TA 3.999994 oz", "state"],
+            &["TA A    3.99999 oz", &tared(113_397_809)],
+        ),
+        on_profile(
+            "half a microgram in other units",
+            "profile 220000000 1000000 4400000 3 GN 2 1",
+            &["> TA 50 GN", "state", "> TA 49.995 GN", "state"],
+            &["TA A      50.00 GN", &tared(3_239_946), "TA A      50.00 GN", &tared(3_239_946)],
+        ),
+        on_profile(
+            "not from the micrograms of the typed number",
+            "profile 99999999 0 0 3 mg 2 1",
+            &["> TA 0.0045 mg", "state", "> TA 0.004999 mg", "> TA 0.005 mg", "state"],
+            &["TA A       0.00 mg", &tared(0), "TA A       0.00 mg", "TA A       0.01 mg", &tared(10)],
+        ),
+    ]
+}
+
+/// The microgram result alone is compared with C.
+fn typed_limits() -> Vec<Case> {
+    let ounces_to = |capacity: u32| format!("profile {capacity} 0 0 3 oz 0 5");
+    let tie_to = |capacity: u32| format!("profile {capacity} 0 0 3 oz 5 1");
+    vec![
+        on_a(
+            "above C before it is rounded",
+            &["> TA 220.000001 g", "state", "> TA 0 g", "> TA 220.000049 g", "state"],
+            &["TA A   220.0000 g", &tared(220_000_000), "TA A     0.0000 g", "TA A   220.0000 g", &tared(220_000_000)],
+        ),
+        on_a("above C once it is rounded", &["> TA 220.00005 g", "state"], &["TA L", &tared(0)]),
+        on_profile(
+            "grams in steps of five",
+            GRAMS_IN_FIVES,
+            &["> TA 1002.4 g", "state"],
+            &["TA A       1000 g", &tared(1_000_000_000)],
+        ),
+        on_profile("grams in steps of five, half of one", GRAMS_IN_FIVES, &["> TA 1002.5 g", "state"], &["TA L", &tared(0)]),
+        on_profile(
+            "ounces in steps of five",
+            OUNCES_IN_FIVES,
+            &["> TA 37.4 oz", "state"],
+            &["TA A         35 oz", &tared(992_233_309)],
+        ),
+        on_profile("ounces in steps of five, half of one", OUNCES_IN_FIVES, &["> TA 37.5 oz", "state"], &["TA L", &tared(0)]),
+        on_profile(
+            "below C before it is rounded",
+            "profile 218000000 0 0 3 g 0 5",
+            &["> TA 217.4 g", "> TA 217.5 g", "> TA 218 g", "state"],
+            &["TA A        215 g", "TA L", "TA L", &tared(215_000_000)],
+        ),
+        // 35 oz are 992,233,309.375 micrograms.
+        on_profile(
+            "C just below the decimal",
+            &ounces_to(992_233_309),
+            &["> TA 35 oz", "state"],
+            &["TA A         35 oz", &tared(992_233_309)],
+        ),
+        on_profile("C a microgram less", &ounces_to(992_233_308), &["> TA 35 oz", "state"], &["TA L", &tared(0)]),
+        on_profile("C at a tie", &tie_to(113_398_093), &["> TA 4 oz", "state"], &["TA A    4.00000 oz", &tared(113_398_093)]),
+        on_profile("C just below a tie", &tie_to(113_398_092), &["> TA 4 oz", "state"], &["TA L", &tared(0)]),
+        on_a(
+            "the largest numbers",
+            &["> TA 9999999999 g", "> TA 999.999999 g", "> TA 0000000220 g"],
+            &["TA L", "TA L", "TA A   220.0000 g"],
+        ),
+    ]
+}
+
+/// SR's number is read as before.
+fn typed_thresholds() -> Vec<Case> {
+    let waits = |set: u32| format!("state zero 0 tare 0 sample none waits SR 0 {set} repeats no shows weight line 0");
+    vec![
+        on_a("SR above C by a microgram", &["> SR 220.000001 g", "state"], &["S L", &tared(0)]),
+        on_a("SR below half a step", &["> SR 0.00004 g", "state"], &[&waits(40)]),
+        on_a("SR above half a step", &["> SR 0.000051 g", "state"], &[&waits(51)]),
+        on_profile("SR in steps of five", GRAMS_IN_FIVES, &["> SR 1002.4 g", "> SR 2.4 g", "state"], &["S L", &waits(2_400_000)]),
+        on_profile("SR at half a microgram", OUNCES, &["> SR 4 oz", "state"], &[&waits(113_398_093)]),
+        on_profile("SR between display steps", OUNCES, &["> SR 1.000005 oz", "state"], &[&waits(28_349_665)]),
+    ]
+}
+
+/// A history of lines and stable loads with their answers, and whether the tally accepts it.
+pub struct History {
+    pub name: &'static str,
+    pub scale: Scale,
+    pub calls: &'static [(&'static str, &'static str)],
+    pub accepted: bool,
+}
+
+/// What the tally makes of typed tares, on profile A with these scales; each rule has one that it rejects.
+pub fn histories() -> Vec<History> {
+    let of = |unit, decimals, step| {
+        move |name, calls, accepted| History { name, scale: Scale { unit, decimals, step }, calls, accepted }
+    };
+    let (grams, fives, ounces) = (of(Unit::Gram, 4, 1), of(Unit::Gram, 4, 5), of(Unit::Ounce, 5, 1));
+    vec![
+        grams(
+            "the typed 49 micrograms do not count",
+            &[("TA 0.000049 g", "TA A     0.0000 g"), ("9999951", ""), ("SI", "S S    10.0000 g")],
+            true,
+        ),
+        grams("as if they did", &[("TA 0.000049 g", "TA A     0.0000 g"), ("9999951", ""), ("SI", "S S     9.9999 g")], false),
+        grams("a tie upwards", &[("TA 0.00005 g", "TA A     0.0001 g"), ("150", ""), ("SI", "S S     0.0001 g")], true),
+        grams("a tie downwards", &[("TA 0.00005 g", "TA A     0.0000 g")], false),
+        grams("the line decides, not the answer", &[("TA 1 g", "TA A     2.0000 g")], false),
+        fives("to the step", &[("TA 0.0002 g", "TA A     0.0000 g"), ("260", ""), ("SI", "S S     0.0005 g")], true),
+        fives("to the last place", &[("TA 0.0002 g", "TA A     0.0000 g"), ("260", ""), ("SI", "S S     0.0000 g")], false),
+        fives("a tie of the step", &[("TA 0.00025 g", "TA A     0.0005 g")], true),
+        fives("below a tie of the step", &[("TA 0.000249 g", "TA A     0.0005 g")], false),
+        // 4 oz are 113,398,092.5 micrograms, and half a step is 141.747615625.
+        ounces(
+            "half a microgram is allowed",
+            &[("TA 4 oz", "TA A    4.00000 oz"), ("113398518", ""), ("SI", "S S    0.00001 oz")],
+            true,
+        ),
+        ounces("and no more", &[("TA 4 oz", "TA A    4.00000 oz"), ("113398235", ""), ("SI", "S S    0.00000 oz")], false),
+        ounces(
+            "the zero tare of TAC is not typed",
+            &[("TA 4 oz", "TA A    4.00000 oz"), ("TAC", "TAC A"), ("142", ""), ("SI", "S S    0.00000 oz")],
+            false,
+        ),
+        ounces("a typed zero is", &[("TA 0 oz", "TA A    0.00000 oz"), ("142", ""), ("SI", "S S    0.00000 oz")], true),
+        ounces(
+            "the tare of T is not typed",
+            &[
+                ("TA 4 oz", "TA A    4.00000 oz"),
+                ("1000", ""),
+                ("T", "T S    0.00004 oz"),
+                ("1142", ""),
+                ("SI", "S S    0.00000 oz"),
+            ],
+            false,
         ),
     ]
 }

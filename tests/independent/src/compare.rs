@@ -1,5 +1,6 @@
 //! Two programs on the same input: the first difference, and the shortest input that shows it.
 
+use crate::faults::Fault;
 use crate::profile::Profile;
 use crate::replay::{Called, Event};
 use crate::sent_on_change::Follower;
@@ -98,6 +99,8 @@ fn without_runs<T: Clone>(mut items: Vec<T>, run: usize, differs: &mut dyn FnMut
 #[derive(Default)]
 pub struct Judge {
     judges: Option<(Profile, Tally, Follower)>,
+    /// Of the tally, switched on only by the mutation check.
+    fault: Option<Fault>,
     pub calls: usize,
     pub refusals: [usize; 6],
     pub weights: usize,
@@ -110,12 +113,18 @@ pub struct Judge {
 }
 
 impl Judge {
+    /// With a fault of the tally.
+    pub fn faulty(fault: Fault) -> Judge {
+        Judge { fault: Some(fault), ..Judge::default() }
+    }
+
     pub fn see(&mut self, event: &Event) {
         self.calls += 1;
         self.refusals[usize::from(event.refusal)] += 1;
         if let Called::On = event.called {
             if event.refusal == 0 {
-                self.judges = Some((event.profile.clone(), Tally::new(event.profile), Follower::new(event.profile)));
+                let tally = Tally::faulty(event.profile, self.fault);
+                self.judges = Some((event.profile.clone(), tally, Follower::new(event.profile)));
             }
             return;
         }

@@ -1,13 +1,15 @@
 //! Small faults that can be switched on, one at a time. The comparison has to notice each; nothing else uses them.
 
 macro_rules! faults {
-    ($list:ident: $($name:ident,)*; $readers:ident: $($reader:ident,)*) => {
+    ($list:ident: $($name:ident,)*; $readers:ident: $($reader:ident,)*; $tallies:ident: $($tally:ident,)*) => {
         #[derive(Clone, Copy, Debug, PartialEq, Eq)]
-        pub enum Fault { $($name,)* $($reader,)* }
+        pub enum Fault { $($name,)* $($reader,)* $($tally,)* }
         /// Faults of the module and its replay.
         pub const $list: &[Fault] = &[$(Fault::$name),*];
         /// Faults of the reader of answer lines.
         pub const $readers: &[Fault] = &[$(Fault::$reader),*];
+        /// Faults of the tally, where it follows a typed tare.
+        pub const $tallies: &[Fault] = &[$(Fault::$tally),*];
     };
 }
 
@@ -16,9 +18,13 @@ faults! {
     // weights
     TieTowardsZero, TieToEven, RoundedTowardsZero, RoundedTwice, StepIgnored, MinusZeroPrinted, LeftAligned,
     OunceCutShort, GrainCutShort, TroyOunceCutShort, PennyweightCutShort,
+    // typed numbers
+    TypedSevenDecimals, TypedElevenCharacters, TypedBarePoint, TypedUnitIgnored, TypedTwoSpaces, ThresholdTieDownwards,
+    ThresholdCut,
     // typed tares
-    TypedTieDownwards, TypedAboveCapacityTaken, TypedSevenDecimals, TypedElevenCharacters, TypedBarePoint, TypedUnitIgnored,
-    TypedTwoSpaces, TypedRoundedToStep,
+    TypedRoundedOnce, TypedMicrogramFirst, TypedFirstTieDownwards, TypedFirstCut, TypedStepIgnored, TypedSecondTieDownwards,
+    TypedSecondCut, TypedAboveCapacityTaken, TypedLimitBeforeBoth, TypedLimitBeforeSecond, TypedHeldToCapacity, TypedZeroRefused,
+    ThresholdRoundedToStep,
     // the profile
     MarginUnchecked, ZeroingRangeUnchecked, PatienceOfThousandOne, PatienceOfZero, CapacityOverLimit, CapacityOfZero,
     StepOfThree, SevenDecimals, StepBelowMicrogram, OnlyCapacityFits, NoNetNeedsToFit, QuoteInText, ControlInText,
@@ -83,4 +89,8 @@ faults! {
     ReadLeadingZero, ReadMinusZero, ReadSevenDecimals, ReadBarePoint, ReadNegativeTare, ReadLeftAligned, ReadShortField,
     ReadOtherUnit, ReadLongText, ReadQuote, ReadControl, ReadSiBusy, ReadResetBusy, ReadOtherLevel, ReadBareZeroing, ReadTrailing,
     ReadLfAlone, ReadUnfinished, ReadWrongSign, ReadAnyVersion, ReadLowerCase, ReadSrBusy, ReadSrWrong, ReadNoWrongS,
+    ;
+    OF_THE_TALLY:
+    TallyReadsUnrounded, TallyTieDownwards, TallyStepIgnored, TallyRoundsToMicrogram, TallyReadsAnswer, TallyForgetsTyped,
+    TallyKeepsTyped, TallyAllowsMicrogram,
 }

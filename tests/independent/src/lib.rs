@@ -1,5 +1,5 @@
-//! Document 01 and the first two requests of document 02 written a second time, from the paper, by plain arithmetic and strings. It
-//! shares no table and no code with the proved module, which it is compared with.
+//! Document 01 and the first three requests of document 02 written a second time, from the paper, by plain arithmetic and strings.
+//! It shares no table and no code with the proved module, which it is compared with.
 
 pub mod buffer;
 pub mod cases;

@@ -3,7 +3,7 @@
 use crate::faults::Fault;
 use crate::on_change::{kept_net, least_change, OnChange};
 use crate::profile::{is_text, Profile};
-use crate::weight::{as_printed, typed_micrograms, weight_text, Unit};
+use crate::weight::{as_printed, before_roundings, typed_micrograms, typed_tare, weight_text, Unit};
 
 const CR: u8 = 13;
 const LF: u8 = 10;
@@ -462,12 +462,13 @@ impl Module {
                 Some(text) => Parameters::Show(text),
                 None => Parameters::Wrong,
             },
-            ("TA", Some(rest)) => match self.typed(profile, rest, Fault::TypedAboveCapacityTaken) {
+            ("TA", Some(rest)) => match self.typed_tare(profile, rest) {
+                Some(0) if self.has(Fault::TypedZeroRefused) => Parameters::Wrong,
                 Some(tare) => Parameters::Preset(tare),
                 None => Parameters::Wrong,
             },
             ("SR", Some(b"")) if self.has(Fault::LoneSpaceTaken) => Parameters::None,
-            ("SR", Some(rest)) => match self.typed(profile, rest, Fault::ThresholdAboveCapacityTaken) {
+            ("SR", Some(rest)) => match self.typed_threshold(profile, rest) {
                 Some(0) if !self.has(Fault::ThresholdOfZeroTaken) => Parameters::Wrong,
                 Some(threshold) => Parameters::Threshold(threshold),
                 None => Parameters::Wrong,
@@ -481,24 +482,38 @@ impl Module {
         self.can_show(text).then(|| text.to_vec())
     }
 
-    /// Number, one space, the profile's unit; at most C, save for a fault that takes one more.
-    fn typed(&self, profile: &Profile, rest: &[u8], above_taken: Fault) -> Option<i64> {
+    /// What a TA line sets: the microgram result at most C, save for faults.
+    fn typed_tare(&self, profile: &Profile, rest: &[u8]) -> Option<i64> {
+        let number = self.typed(profile, rest)?;
+        let tare = typed_tare(number, profile.scale, self.fault)?;
+        let capacity = i128::from(profile.capacity);
+        let before = || before_roundings(number, profile.scale);
+        match self.fault {
+            Some(Fault::TypedLimitBeforeBoth) if before()?.0 > capacity => None,
+            Some(Fault::TypedLimitBeforeSecond) if before()?.1 > capacity => None,
+            Some(Fault::TypedHeldToCapacity) if before()?.0 <= capacity => Some(tare.min(capacity) as i64),
+            _ => (tare <= capacity + i128::from(self.has(Fault::TypedAboveCapacityTaken))).then_some(tare as i64),
+        }
+    }
+
+    /// What an SR line sets, at most C, save for faults.
+    fn typed_threshold(&self, profile: &Profile, rest: &[u8]) -> Option<i64> {
+        let number = self.typed(profile, rest)?;
+        let read = if self.has(Fault::ThresholdRoundedToStep) { typed_tare } else { typed_micrograms };
+        let threshold = read(number, profile.scale, self.fault)?;
+        let most = i128::from(profile.capacity) + i128::from(self.has(Fault::ThresholdAboveCapacityTaken));
+        (threshold <= most).then_some(threshold as i64)
+    }
+
+    /// The number of a typed one, one space and the profile's unit.
+    fn typed<'a>(&self, profile: &Profile, rest: &'a [u8]) -> Option<&'a [u8]> {
         let at = rest.iter().position(|&byte| byte == b' ')?;
         let (number, mut unit) = (&rest[..at], &rest[at + 1..]);
         if self.has(Fault::TypedTwoSpaces) {
             unit = unit.strip_prefix(b" ").unwrap_or(unit);
         }
-        if Unit::named(unit) != Some(profile.scale.unit) && !self.has(Fault::TypedUnitIgnored) {
-            return None;
-        }
-        let mut weight = typed_micrograms(number, profile.scale, self.fault)?;
-        if weight > i128::from(profile.capacity) + i128::from(self.has(above_taken)) {
-            return None;
-        }
-        if self.has(Fault::TypedRoundedToStep) {
-            weight = as_printed(weight, profile.scale);
-        }
-        Some(weight as i64)
+        let good = Unit::named(unit) == Some(profile.scale.unit) || self.has(Fault::TypedUnitIgnored);
+        good.then_some(number)
     }
 
     // Order 8: what each command does.

@@ -42,8 +42,8 @@ impl Rng {
     }
 }
 
-/// One x with x * a / b halfway between two whole numbers, and the distance to the next such x.
-fn tie(a: i128, b: i128) -> Option<(i128, i128)> {
+/// One x with x * a / b halfway between two whole numbers, the least that is not negative, and the distance to the next such x.
+pub fn tie(a: i128, b: i128) -> Option<(i128, i128)> {
     let (g, inverse) = gcd_and_inverse(2 * a, 2 * b);
     let every = 2 * b / g;
     (b % g == 0).then(|| ((b / g * inverse).rem_euclid(every), every))
@@ -124,7 +124,11 @@ fn good_profile(rng: &mut Rng) -> Profile {
         let (margin, zeroing) = (part_of(rng, capacity), part_of(rng, capacity));
         let profile =
             Profile { capacity, margin, zeroing, patience: any_patience(rng), scale: any_scale(rng), texts: texts(rng) };
-        let profile = if rng.chance(25) { widest(rng, profile) } else { profile };
+        let profile = match rng.below(100) {
+            0..=19 => widest(rng, profile),
+            20..=44 => at_a_step(rng, profile),
+            _ => profile,
+        };
         if !profile.is_refused(None) {
             return profile;
         }
@@ -142,6 +146,17 @@ fn widest(rng: &mut Rng, mut profile: Profile) -> Profile {
         profile.margin = largest(profile.capacity, |margin| !Profile { margin, ..profile.clone() }.is_refused(None));
     }
     profile
+}
+
+/// A capacity at the micrograms of some display steps or beside them, so that a typed tare meets it.
+fn at_a_step(rng: &mut Rng, profile: Profile) -> Profile {
+    let Scale { unit, decimals, step } = profile.scale;
+    let (above, below) = (i128::from(step) * unit.nanograms(), 1000 * ten_to(decimals.into()));
+    let most = i128::from(profile.capacity) * below / above;
+    let any = rng.between(0, most);
+    let steps = if rng.chance(50) { some_tie(rng, above, below, 0, most).unwrap_or(any) } else { any };
+    let micrograms = (2 * steps * above + below) / (2 * below) + rng.pick(&[-1, 0, 0, 0, 1]);
+    with_capacity(profile, micrograms.max(0) as u32)
 }
 
 /// The largest number up to a limit that passes, if passing ends somewhere.
@@ -458,7 +473,9 @@ impl Maker<'_> {
 
     /// TA or SR with a number and a unit, or nearly.
     fn typed_line(&mut self, name: &str) -> Vec<u8> {
-        let (number, unit) = (self.typed_number(), self.replay.profile.scale.unit.name().to_string());
+        let number = if name == "TA" && self.rng.chance(60) { self.typed_tare() } else { self.typed_number() };
+        let number = self.odd_number(number);
+        let unit = self.replay.profile.scale.unit.name().to_string();
         let other = self.rng.pick(&UNITS).name();
         let text = match self.rng.below(24) {
             0 => format!("{name} {number}"),
@@ -477,7 +494,28 @@ impl Maker<'_> {
         text.into_bytes()
     }
 
-    /// A number near C, at a tie of its rounding to micrograms, or of an odd form.
+    /// A number that TA rounds to some display steps, at a tie or beside one: to those near C, to those at a tie of the second
+    /// rounding, or to any.
+    fn typed_tare(&mut self) -> String {
+        let Profile { capacity, scale: Scale { unit, decimals, step }, .. } = self.replay.profile;
+        let (k, decimals) = (i128::from(step.max(1)), decimals.min(6));
+        let (above, below) = (k * unit.nanograms(), 1000 * ten_to(decimals.into()));
+        let most = (2 * i128::from(capacity) * below + above) / (2 * above);
+        let steps = match self.rng.below(10) {
+            0..=2 => most + self.rng.pick(&[-1, 0, 0, 0, 1]),
+            3..=5 => some_tie(self.rng, above, below, 0, most).unwrap_or(most),
+            6 => self.rng.between(0, 3),
+            _ => self.rng.between(0, most),
+        };
+        let halves = (2 * steps + self.rng.pick(&[-1, -1, 0, 1, 1])).max(0);
+        let (above, below) = (halves * k, 2 * ten_to(decimals.into()));
+        let longest = 9usize.saturating_sub((above / below).to_string().len()).min(6);
+        let typed = if self.rng.chance(70) { longest } else { self.rng.below(longest + 1) } as u8;
+        let number = above * ten_to(typed.into()) / below + self.rng.pick(&[-1, 0, 0, 0, 1]);
+        number_text(number.max(0), typed, false)
+    }
+
+    /// A number near C, at a tie of its rounding to micrograms, or any.
     fn typed_number(&mut self) -> String {
         let nanograms = self.replay.profile.scale.unit.nanograms();
         let capacity = i128::from(self.replay.profile.capacity);
@@ -491,7 +529,11 @@ impl Maker<'_> {
             6 => self.rng.between(0, 3),
             _ => self.rng.between(0, ten),
         };
-        let text = number_text(number.max(0), decimals, false);
+        number_text(number.max(0), decimals, false)
+    }
+
+    /// Now and then of an odd form.
+    fn odd_number(&mut self, text: String) -> String {
         match self.rng.below(40) {
             0 => format!("-{text}"),
             1 => format!("+{text}"),
@@ -1089,12 +1131,17 @@ impl Maker<'_> {
         self.set_profile(&former, with_texts);
     }
 
-    /// A tare that does not stand at a display step, then weights around a tie.
+    /// A tare that does not stand at a display step, or a typed one, then weights around a tie.
     fn tare_and_weigh(&mut self) {
         let stable = self.rng.chance(60);
         self.sample_of(stable);
-        let name = self.rng.pick(&["> T", "> TI", "> ZI", "> Z"]);
-        self.say(name);
+        if self.rng.chance(50) {
+            let line = self.typed_line("TA");
+            self.send(line);
+        } else {
+            let name = self.rng.pick(&["> T", "> TI", "> ZI", "> Z"]);
+            self.say(name);
+        }
         for _ in 0..3 {
             self.sample();
             self.say("> SI");

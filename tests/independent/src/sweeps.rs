@@ -5,12 +5,13 @@ use crate::compare::Script;
 use crate::module::COMMANDS;
 use crate::on_change::least_change;
 use crate::profile::Profile;
-use crate::random::{largest, profile_line};
-use crate::weight::{number_text, ten_to, Scale, Unit, UNITS};
+use crate::random::{largest, profile_line, tie};
+use crate::weight::{number_text, ten_to, typed_tare, Scale, Unit, UNITS};
 
 pub fn scripts() -> Vec<Script> {
     let mut scripts: Vec<Script> = scales().map(widths).collect();
     scripts.extend(UNITS.map(typed_limits));
+    scripts.extend(typed_tares());
     scripts.extend(UNITS.map(threshold_limits));
     scripts.extend(scales().filter_map(changes));
     scripts.extend([names(), bytes(), lengths(), faults(), patience(), rooms(), repetition(), display()]);
@@ -38,9 +39,13 @@ fn scales() -> impl Iterator<Item = Scale> {
     UNITS.into_iter().flat_map(of_unit)
 }
 
+pub fn allowed_scales() -> impl Iterator<Item = Scale> {
+    scales().filter(|scale| !with_widest_capacity(*scale).is_refused(None))
+}
+
 /// The widest capacity and margin of a scale and one more of each, with weights at both ends.
 fn widths(scale: Scale) -> Script {
-    let highest = Profile { margin: 0, zeroing: 0, scale, capacity: widest_capacity(scale), ..Profile::a() };
+    let highest = with_widest_capacity(scale);
     let lowest = widest_margin(scale);
     let profiles = [
         highest.clone(),
@@ -55,6 +60,10 @@ fn widths(scale: Scale) -> Script {
 fn widest_capacity(scale: Scale) -> u32 {
     let base = Profile { margin: 0, zeroing: 0, scale, ..Profile::a() };
     largest(1_000_000_000, |capacity| !Profile { capacity, ..base.clone() }.is_refused(None)).max(1)
+}
+
+pub fn with_widest_capacity(scale: Scale) -> Profile {
+    Profile { margin: 0, zeroing: 0, scale, capacity: widest_capacity(scale), ..Profile::a() }
 }
 
 /// Half of that, and the largest margin beside it.
@@ -93,6 +102,73 @@ fn typed_around(profile: Profile) -> Vec<String> {
         }
     }
     lines
+}
+
+// Typed tares.
+
+/// In every unit with every number of decimals and every step that can be.
+pub fn typed_tares() -> Vec<Script> {
+    allowed_scales().flat_map(|scale| [typed_ties(scale), typed_beside_capacity(scale)]).collect()
+}
+
+/// The display steps that a weight holds.
+fn steps_in(micrograms: i128, scale: Scale) -> i128 {
+    micrograms * 1000 * ten_to(scale.decimals.into()) / (i128::from(scale.step) * scale.unit.nanograms())
+}
+
+/// A number of so many half display steps with as many decimals as can be typed, cut off where they are more; one less and one
+/// more in its last place; and itself with as few decimals as can be.
+pub fn typed_halves(halves: i128, scale: Scale) -> Vec<String> {
+    let (above, below) = (halves * i128::from(scale.step), 2 * ten_to(scale.decimals.into()));
+    let whole = (above / below).to_string().len();
+    let decimals = 9usize.saturating_sub(whole).min(6) as u8;
+    let number = above * ten_to(decimals.into()) / below;
+    let text = |number: i128| number_text(number, decimals, false);
+    let near = ((number - 1).max(0)..=number + 1).map(text);
+    let short = if decimals == 0 { text(number) } else { text(number).trim_end_matches('0').trim_end_matches('.').to_string() };
+    near.chain([short]).collect()
+}
+
+/// The first and the last number of display steps within a weight that are halfway between two micrograms. Those of grams,
+/// milligrams and carats are whole micrograms.
+pub fn second_ties(micrograms: i128, scale: Scale) -> Option<[i128; 2]> {
+    let most = steps_in(micrograms, scale);
+    let (first, every) = tie(i128::from(scale.step) * scale.unit.nanograms(), 1000 * ten_to(scale.decimals.into()))?;
+    (first <= most).then(|| [first, first + (most - first) / every * every])
+}
+
+/// Both sides of the ties of both roundings, small and at the capacity, and the largest numbers that can be typed.
+fn typed_ties(scale: Scale) -> Script {
+    let profile = with_widest_capacity(scale);
+    let capacity = i128::from(profile.capacity);
+    let most = steps_in(capacity, scale);
+    let first = [0, 1, most / 3, most].map(|steps| 2 * steps + 1);
+    let second = second_ties(capacity, scale).into_iter().flatten().flat_map(|steps| 2 * steps - 1..=2 * steps + 1);
+    let numbers = first.into_iter().chain(second).flat_map(|halves| typed_halves(halves, scale));
+    let nines = (0..7).map(|decimals| number_text(ten_to(if decimals == 0 { 10 } else { 9 }) - 1, decimals, false));
+    let typed = numbers.chain(nines).map(|number| typed_line(&number, scale));
+    script([text_of(profile_line(&profile)), "on".to_string()].into_iter().chain(typed))
+}
+
+fn typed_line(number: &str, scale: Scale) -> String {
+    format!("> TA {number} {}", scale.unit.name())
+}
+
+/// Tares of some display steps and both ends of what is rounded to them, where C is a microgram less, the same and one more.
+fn typed_beside_capacity(scale: Scale) -> Script {
+    let most = i128::from(widest_capacity(scale)) / 2;
+    let ties = second_ties(most, scale).into_iter().flatten();
+    let some = [1, steps_in(most, scale)].into_iter().chain(ties).filter(|&steps| steps > 0);
+    script(some.flat_map(|steps| {
+        let decimal = number_text(steps * i128::from(scale.step), scale.decimals, false);
+        let tare = typed_tare(decimal.as_bytes(), scale, None).unwrap_or(0) as u32;
+        let numbers: Vec<String> = (2 * steps - 1..=2 * steps + 1).flat_map(|halves| typed_halves(halves, scale)).collect();
+        (tare.max(2) - 1..=tare + 1).flat_map(move |capacity| {
+            let profile = Profile { capacity, margin: 0, zeroing: 0, scale, ..Profile::a() };
+            let typed = numbers.clone().into_iter().map(|number| typed_line(&number, scale));
+            [text_of(profile_line(&profile)), "on".to_string()].into_iter().chain(typed).collect::<Vec<_>>()
+        })
+    }))
 }
 
 // Send on change.

@@ -1,5 +1,6 @@
 //! The tally of demand 3. It reads calls and answers alone, never the state, and judges every weight in them.
 
+use crate::faults::Fault;
 use crate::profile::Profile;
 use crate::weight::{ten_to, typed_number, Scale};
 
@@ -20,11 +21,21 @@ pub struct Tally {
     zero: i128,
     tare: i128,
     typed: bool,
+    /// Switched on only by the mutation check.
+    fault: Option<Fault>,
 }
 
 impl Tally {
     pub fn new(profile: &Profile) -> Tally {
-        Tally { profile: profile.clone(), line: vec![], load: None, zero: 0, tare: 0, typed: false }
+        Tally::faulty(profile, None)
+    }
+
+    pub fn faulty(profile: &Profile, fault: Option<Fault>) -> Tally {
+        Tally { profile: profile.clone(), line: vec![], load: None, zero: 0, tare: 0, typed: false, fault }
+    }
+
+    fn has(&self, fault: Fault) -> bool {
+        self.fault == Some(fault)
     }
 
     /// Takes one call with its refusal number and answer; says what is wrong with the answer.
@@ -41,6 +52,22 @@ impl Tally {
         taken.iter().try_for_each(|(call, answer)| self.take(*call, 0, answer))
     }
 
+    /// Takes lines and stable loads, with the answer to the last byte or the sample of each.
+    pub fn take_lines(&mut self, history: &[(&str, &str)]) -> Result<(), String> {
+        for (line, answer) in history {
+            let answer = format!("{answer}\r\n");
+            if let Ok(load) = line.parse() {
+                self.take(Call::Sample { load, stable: true }, 0, answer.as_bytes())?;
+                continue;
+            }
+            for byte in format!("{line}\r").bytes() {
+                self.take(Call::Byte { byte, good: true }, 0, b"")?;
+            }
+            self.take(Call::Byte { byte: b'\n', good: true }, 0, answer.as_bytes())?;
+        }
+        Ok(())
+    }
+
     /// Line, load, zero and tare after a call that is not refused; gives the line that it ended, without its CR LF.
     pub fn follow(&mut self, call: Call, answer: &[u8]) -> Result<Option<Vec<(u8, bool)>>, String> {
         let ended = self.join(call);
@@ -54,8 +81,7 @@ impl Tally {
     /// Gross and net of the latest load, to the microgram as the module keeps them: a typed tare is rounded to it, a tie upwards.
     pub fn gross_and_net(&self) -> Option<(i128, i128)> {
         let gross = self.load? - self.zero;
-        let tare = (2 * self.tare + MICROGRAM) / (2 * MICROGRAM) * MICROGRAM;
-        Some((gross, gross - tare))
+        Some((gross, gross - to_microgram(self.tare)))
     }
 
     fn join(&mut self, call: Call) -> Option<Vec<(u8, bool)>> {
@@ -78,7 +104,7 @@ impl Tally {
 
     fn set_tare(&mut self, tare: i128, typed: bool) {
         self.tare = tare;
-        self.typed = typed;
+        self.typed = (typed && !self.has(Fault::TallyForgetsTyped)) || (self.typed && self.has(Fault::TallyKeepsTyped));
     }
 
     fn latest(&self) -> Result<i128, String> {
@@ -97,18 +123,29 @@ impl Tally {
         } else if begins(answer, &["TA A"]) {
             let line: Vec<u8> = ended.ok_or("TA A without a line")?.iter().map(|(byte, _)| *byte).collect();
             if line != b"TA" {
-                let typed = self.typed_tare(&line).ok_or("TA A to a line without a number")?;
-                self.set_tare(typed, true);
+                let read = if self.has(Fault::TallyReadsAnswer) { self.told(answer) } else { self.typed_tare(&line) };
+                self.set_tare(read.ok_or("TA A to a line without a number")?, true);
             }
         }
         Ok(())
     }
 
-    /// The number in the line x unit, unrounded.
+    /// The number in the line at the nearest display step, a tie upwards, and not rounded to micrograms.
     fn typed_tare(&self, line: &[u8]) -> Option<i128> {
         let number = line.strip_prefix(b"TA ")?.split(|&byte| byte == b' ').next()?;
         let (digits, decimals) = typed_number(number, None)?;
-        Some(digits * ten_to(6 - decimals) * self.profile.scale.unit.nanograms())
+        let scale = self.profile.scale;
+        let typed = digits * ten_to(6 - decimals) * scale.unit.nanograms();
+        let last_place = Scale { step: 1, ..scale };
+        let step = display_step(if self.has(Fault::TallyStepIgnored) { last_place } else { scale });
+        let (below, rest) = (typed - typed % step, typed % step);
+        let up = 2 * rest > step || (2 * rest == step && !self.has(Fault::TallyTieDownwards));
+        let rounded = if up { below + step } else { below };
+        match self.fault {
+            Some(Fault::TallyReadsUnrounded) => Some(typed),
+            Some(Fault::TallyRoundsToMicrogram) => Some(to_microgram(rounded)),
+            _ => Some(rounded),
+        }
     }
 
     /// Number and exact weight differ by at most half a step, and half a microgram if the tare is typed.
@@ -121,7 +158,8 @@ impl Tally {
             return Ok(());
         };
         let number = self.told(answer).ok_or("a weight answer without a number")?;
-        let allowed = display_step(self.profile.scale) + if self.typed { MICROGRAM } else { 0 };
+        let half = if self.has(Fault::TallyAllowsMicrogram) { MICROGRAM } else { MICROGRAM / 2 };
+        let allowed = display_step(self.profile.scale) + if self.typed { 2 * half } else { 0 };
         if 2 * (number - exact).abs() > allowed {
             return Err(format!("{number} fg told, {exact} fg exact, twice the difference may be {allowed}"));
         }
@@ -145,6 +183,11 @@ impl Tally {
 /// k x unit / (1,000 x 10^d), in femtograms.
 pub fn display_step(scale: Scale) -> i128 {
     i128::from(scale.step) * scale.unit.nanograms() * ten_to(6 - u32::from(scale.decimals))
+}
+
+/// The nearest microgram of a weight that is not negative, a tie upwards.
+fn to_microgram(weight: i128) -> i128 {
+    (2 * weight + MICROGRAM) / (2 * MICROGRAM) * MICROGRAM
 }
 
 fn begins(answer: &[u8], beginnings: &[&str]) -> bool {

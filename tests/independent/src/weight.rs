@@ -141,14 +141,51 @@ pub fn typed_number(text: &[u8], fault: Option<Fault>) -> Option<(i128, u32)> {
     Some((number, decimals.len() as u32))
 }
 
-/// A typed number in micrograms, rounded once, a tie upwards.
+/// The whole number nearest to a / b, both not negative, a tie upwards; the faults take it downwards or cut the rest off.
+fn nearest_upwards(a: i128, b: i128, fault: Option<Fault>, tie_downwards: Fault, cut: Fault) -> i128 {
+    let tie = 2 * a % (2 * b) == b;
+    match fault {
+        Some(fault) if fault == cut || (tie && fault == tie_downwards) => a / b,
+        _ => (2 * a + b) / (2 * b),
+    }
+}
+
+/// SR's number in micrograms, rounded once, a tie upwards.
 pub fn typed_micrograms(text: &[u8], scale: Scale, fault: Option<Fault>) -> Option<i128> {
     let (number, decimals) = typed_number(text, fault)?;
-    let nanograms = number * scale.unit.weighed(fault);
-    let below = 1000 * ten_to(decimals);
-    let tie = 2 * nanograms % (2 * below) == below;
-    let micrograms = (2 * nanograms + below) / (2 * below);
-    Some(if tie && fault == Some(Fault::TypedTieDownwards) { micrograms - 1 } else { micrograms })
+    let (nanograms, below) = (number * scale.unit.weighed(fault), 1000 * ten_to(decimals));
+    Some(nearest_upwards(nanograms, below, fault, Fault::ThresholdTieDownwards, Fault::ThresholdCut))
+}
+
+/// TA's number to the nearest display step, a tie upwards; counted in last places.
+fn typed_places(text: &[u8], scale: Scale, fault: Option<Fault>) -> Option<i128> {
+    if fault == Some(Fault::TypedMicrogramFirst) {
+        return Some(last_places(typed_micrograms(text, scale, None)?, scale, None));
+    }
+    let (number, decimals) = typed_number(text, fault)?;
+    let k = if fault == Some(Fault::TypedStepIgnored) { 1 } else { i128::from(scale.step) };
+    let (places, below) = (number * ten_to(scale.decimals.into()), k * ten_to(decimals));
+    Some(nearest_upwards(places, below, fault, Fault::TypedFirstTieDownwards, Fault::TypedFirstCut) * k)
+}
+
+/// A typed tare in micrograms (document 02, No. 3): the number to the nearest display step, and that decimal to the nearest
+/// microgram, a tie upwards in both.
+pub fn typed_tare(text: &[u8], scale: Scale, fault: Option<Fault>) -> Option<i128> {
+    if fault == Some(Fault::TypedRoundedOnce) {
+        return typed_micrograms(text, scale, fault);
+    }
+    let nanograms = typed_places(text, scale, fault)? * scale.unit.weighed(fault);
+    let below = 1000 * ten_to(scale.decimals.into());
+    Some(nearest_upwards(nanograms, below, fault, Fault::TypedSecondTieDownwards, Fault::TypedSecondCut))
+}
+
+/// TA's number and what its first rounding makes of it, in micrograms, a part of one counted as one: for the faults that compare
+/// these with C.
+pub fn before_roundings(text: &[u8], scale: Scale) -> Option<(i128, i128)> {
+    let up = |a: i128, b: i128| (a + b - 1) / b;
+    let (number, decimals) = typed_number(text, None)?;
+    let (places, unit) = (typed_places(text, scale, None)?, scale.unit.nanograms());
+    Some((up(number * unit, 1000 * ten_to(decimals)), up(places * unit, 1000 * ten_to(scale.decimals.into()))))
 }
 
 /// The micrograms that the printed number stands for, for the fault that keeps these.

@@ -1,12 +1,16 @@
 //! The mutation check: each small fault, switched on in this implementation, has to be noticed by the comparison.
 
+use independent::cases::histories;
 use independent::compare::{capture_bytes, difference, script_bytes, shown, Judge, Script};
 use independent::decode::{decode, decode_with};
-use independent::faults::{Fault, OF_THE_MODULE, OF_THE_READER};
+use independent::faults::{Fault, OF_THE_MODULE, OF_THE_READER, OF_THE_TALLY};
 use independent::module::Module;
+use independent::profile::Profile;
 use independent::random::{capture, script, Rng, MOST_UNSEEN};
 use independent::reader::Reader;
 use independent::replay::{replay, replay_with, Replay};
+use independent::sweeps;
+use independent::tally::Tally;
 
 const SEED: u64 = 1;
 const SCRIPTS: usize = 400;
@@ -32,7 +36,13 @@ const JUDGED: &[Fault] = &[
     Fault::ZeroingByGross,
     Fault::TareByNet,
     Fault::FirstSampleKept,
-    Fault::TypedRoundedToStep,
+    Fault::TypedRoundedOnce,
+    Fault::TypedMicrogramFirst,
+    Fault::TypedFirstTieDownwards,
+    Fault::TypedFirstCut,
+    Fault::TypedStepIgnored,
+    Fault::TypedSecondCut,
+    Fault::TypedHeldToCapacity,
     Fault::QueryClearsTare,
 ];
 
@@ -91,8 +101,29 @@ const FOLLOWED: &[Fault] = &[
     Fault::ThresholdKeptFromOlder,
     Fault::ThresholdOfZeroTaken,
     Fault::ThresholdAboveCapacityTaken,
+    Fault::ThresholdRoundedToStep,
     Fault::LoneSpaceTaken,
 ];
+
+/// Faults of typed tares, which the sweep of them has to notice too.
+const OF_TYPED_TARES: &[Fault] = &[
+    Fault::TypedRoundedOnce,
+    Fault::TypedMicrogramFirst,
+    Fault::TypedFirstTieDownwards,
+    Fault::TypedFirstCut,
+    Fault::TypedStepIgnored,
+    Fault::TypedSecondTieDownwards,
+    Fault::TypedSecondCut,
+    Fault::TypedAboveCapacityTaken,
+    Fault::TypedLimitBeforeBoth,
+    Fault::TypedLimitBeforeSecond,
+    Fault::TypedHeldToCapacity,
+    Fault::TypedZeroRefused,
+];
+
+/// Faults of the tally for which it rejects answers of the good module; the others let more pass, as constructed histories show.
+const REJECTING: &[Fault] =
+    &[Fault::TallyReadsUnrounded, Fault::TallyTieDownwards, Fault::TallyStepIgnored, Fault::TallyForgetsTyped];
 
 /// Faults of the whole-buffer call that answers, refusals and bytes taken show, so that its bytes taken singly have to notice them.
 const TAKEN_APART: &[Fault] = &[
@@ -189,6 +220,15 @@ fn every_fault_of_the_module_is_noticed() {
 }
 
 #[test]
+fn the_sweep_notices_every_fault_of_typed_tares() {
+    let inputs: Vec<Vec<u8>> = sweeps::typed_tares().iter().map(|one| script_bytes(one)).collect();
+    for &fault in OF_TYPED_TARES {
+        let faulty = |input: &[u8]| replay_with(Module { fault: Some(fault) }, input, &mut |_| {});
+        assert!(inputs.iter().any(|input| faulty(input) != replay(input)), "{fault:?}");
+    }
+}
+
+#[test]
 fn no_answer_shows_the_silent_faults() {
     for one in scripts(SILENT_SCRIPTS) {
         let input = without_state(&one);
@@ -273,6 +313,24 @@ fn the_tally_notices_wrong_weights() {
     }
     for &fault in JUDGED {
         assert!(inputs.iter().any(|input| !judged(Some(fault), input).faults.is_empty()), "{fault:?}");
+    }
+}
+
+/// By a constructed history of which it thinks otherwise, and where it rejects too much by the random histories too.
+#[test]
+fn every_fault_of_the_tally_is_noticed() {
+    for &fault in OF_THE_TALLY {
+        let accepts = |scale, calls| Tally::faulty(&Profile { scale, ..Profile::a() }, Some(fault)).take_lines(calls).is_ok();
+        assert!(histories().iter().any(|one| accepts(one.scale, one.calls) != one.accepted), "{fault:?}");
+    }
+    let inputs: Vec<Vec<u8>> = scripts(JUDGED_SCRIPTS).iter().map(|one| without_state(one)).collect();
+    for &fault in REJECTING {
+        let rejects = |input: &[u8]| {
+            let mut judge = Judge::faulty(fault);
+            replay_with(Module::default(), input, &mut |event| judge.see(event));
+            !judge.faults.is_empty()
+        };
+        assert!(inputs.iter().any(|input| rejects(input)), "{fault:?}");
     }
 }
 

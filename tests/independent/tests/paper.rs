@@ -1,18 +1,20 @@
 //! The paper's cases on this implementation, and constructed states, readings and histories.
 
 use independent::buffer::{Taken, MOST_BYTES};
-use independent::cases::{self, run};
+use independent::cases::{self, run, History};
 use independent::compare::shown;
 use independent::decode::decode;
 use independent::module::{Line, Module, Outcome, Repetition, Sample, State, Wait};
 use independent::on_change::OnChange;
 use independent::profile::Profile;
+use independent::random::Rng;
 use independent::reader::{line_of, write, Answer, Reader};
 use independent::replay::replay;
 use independent::sent_on_change::Follower;
 use independent::singly::Singly;
+use independent::sweeps;
 use independent::tally::{Call, Tally};
-use independent::weight::{printed, Scale, Unit};
+use independent::weight::{last_places, number_text, printed, ten_to, typed_number, typed_tare, Scale, Unit};
 use std::cell::OnceCell;
 
 const MODULE: Module = Module { fault: None };
@@ -450,23 +452,114 @@ fn numbers_without_decimals_have_no_point() {
     assert_eq!(printed(-999, scale, None), "0");
 }
 
+// Typed tares.
+
+/// The whole number nearest to a / b, a tie upwards: by the rest.
+fn nearest(a: i128, b: i128) -> i128 {
+    a / b + i128::from(2 * (a % b) >= b)
+}
+
+/// The last places and the micrograms of a typed tare.
+fn both_roundings(number: &str, Scale { unit, decimals, step }: Scale) -> (i128, i128) {
+    let (digits, typed) = typed_number(number.as_bytes(), None).expect("a number");
+    let (k, shown) = (i128::from(step), ten_to(decimals.into()));
+    let places = nearest(digits * shown, k * ten_to(typed)) * k;
+    (places, nearest(places * unit.nanograms(), 1000 * shown))
+}
+
+/// The answer to a line, and the state after it.
+fn answered(profile: &Profile, line: &str) -> (String, State) {
+    let (mut state, mut room) = (State { tare: 1, ..State::default() }, [0; 256]);
+    let mut told = vec![];
+    for byte in format!("{line}\r\n").bytes() {
+        let Outcome { refusal, n } = MODULE.byte(profile, &mut state, byte, 0, &mut room);
+        assert_eq!(refusal, 0, "{line} on {profile:?}");
+        told = room[..n].to_vec();
+    }
+    (String::from_utf8(told).expect("characters"), state)
+}
+
+/// The ten characters of the answer to a typed tare are the rounded decimal, and typing them sets the same tare again. True if it
+/// is granted.
+fn is_read_back(profile: &Profile, number: &str) -> bool {
+    let unit = profile.scale.unit.name();
+    let (places, tare) = both_roundings(number, profile.scale);
+    let (answer, state) = answered(profile, &format!("TA {number} {unit}"));
+    if tare > profile.capacity.into() {
+        assert_eq!((answer.as_str(), state.tare), ("TA L\r\n", 1), "{number} on {profile:?}");
+        return false;
+    }
+    let decimal = number_text(places, profile.scale.decimals, false);
+    assert_eq!(answer, format!("TA A {decimal:>10} {unit}\r\n"), "{number} on {profile:?}");
+    assert_eq!(i128::from(state.tare), tare, "{number} on {profile:?}");
+    let again = answered(profile, &format!("TA {} {unit}", answer[5..15].trim_start()));
+    assert_eq!(again, (answer, state), "{number} on {profile:?}");
+    true
+}
+
+/// A display step is a microgram or more, so that the second rounding moves a decimal by less than half a step.
+#[test]
+fn what_ta_answers_is_what_it_set() {
+    let mut rng = Rng::new(3);
+    for scale in sweeps::allowed_scales() {
+        let profile = sweeps::with_widest_capacity(scale);
+        let ties = sweeps::second_ties(profile.capacity.into(), scale).into_iter().flatten();
+        let halves = (0..12).chain(ties.flat_map(|steps| 2 * steps - 1..=2 * steps + 1));
+        let numbers = halves.flat_map(|halves| sweeps::typed_halves(halves, scale));
+        let granted = numbers.filter(|number| is_read_back(&profile, number)).count();
+        assert!(granted > 0, "{scale:?}");
+        for _ in 0..60 {
+            let decimals = rng.below(7);
+            let digits = rng.below(if decimals == 0 { 10 } else { 9 }) as u32;
+            let number = i128::from(rng.next()).rem_euclid(10 * ten_to(digits));
+            is_read_back(&profile, &number_text(number, decimals as u8, false));
+        }
+        for largest in ["9999999999", "99999999.9", "9999.99999", "999.999999", "0000000000", "0.000001"] {
+            is_read_back(&profile, largest);
+        }
+    }
+}
+
+/// The same by arithmetic alone, for many display steps of each scale.
+#[test]
+fn every_display_step_is_read_back() {
+    let mut rng = Rng::new(4);
+    for scale in sweeps::allowed_scales() {
+        let capacity = i128::from(sweeps::with_widest_capacity(scale).capacity);
+        let most = last_places(capacity, scale, None) / i128::from(scale.step);
+        let any = (0..3_000).map(|_| i128::from(rng.next()) % (most + 1));
+        for steps in (0..=3_000.min(most)).chain((most - 3_000).max(0)..=most).chain(any) {
+            let places = steps * i128::from(scale.step);
+            let number = number_text(places, scale.decimals, false);
+            let tare = typed_tare(number.as_bytes(), scale, None).expect("a number");
+            assert_eq!((places, tare), both_roundings(&number, scale));
+            assert_eq!(last_places(tare, scale, None), places, "{number} of {scale:?}");
+        }
+    }
+}
+
+/// Where a decimal can stand halfway between two micrograms.
+#[test]
+fn ties_of_the_second_rounding() {
+    for scale in sweeps::allowed_scales() {
+        let Scale { unit, decimals, step } = scale;
+        let fewest = match (unit, step) {
+            (Unit::Gram | Unit::Milligram | Unit::Carat, _) => None,
+            (Unit::Ounce | Unit::Grain, _) => Some(0),
+            (Unit::TroyOunce, 2) => Some(5),
+            (Unit::TroyOunce, _) => Some(4),
+            (Unit::Pennyweight, 2) => Some(3),
+            (Unit::Pennyweight, _) => Some(2),
+        };
+        let ties = sweeps::second_ties(sweeps::with_widest_capacity(scale).capacity.into(), scale);
+        assert_eq!(ties.is_some(), fewest.is_some_and(|fewest| decimals >= fewest), "{scale:?}");
+    }
+}
+
 // The tally.
 
-/// Feeds lines and samples, with the answer to the last byte or sample of each.
 fn tallied(history: &[(&str, &str)]) -> Result<(), String> {
-    let mut tally = Tally::new(&Profile::a());
-    for (line, answer) in history {
-        let answer = format!("{answer}\r\n");
-        if let Ok(load) = line.parse() {
-            tally.take(Call::Sample { load, stable: true }, 0, answer.as_bytes())?;
-            continue;
-        }
-        for byte in format!("{line}\r").bytes() {
-            tally.take(Call::Byte { byte, good: true }, 0, b"")?;
-        }
-        tally.take(Call::Byte { byte: b'\n', good: true }, 0, answer.as_bytes())?;
-    }
-    Ok(())
+    Tally::new(&Profile::a()).take_lines(history)
 }
 
 #[test]
@@ -488,6 +581,14 @@ fn the_tally_follows_zero_and_tare() {
     assert!(tallied(&[("TA 1.5 g", "TA A     1.5000 g"), ("1500048", ""), ("S", "S S     0.0001 g")]).is_err());
     assert!(tallied(&[("70000", ""), ("T", "T S     0.0700 g"), ("@", "I4 A \"\""), ("S", "S S     0.0700 g")]).is_ok());
     assert!(tallied(&[("70000", ""), ("T", "T S     0.0700 g"), ("@", "I4 A \"\""), ("S", "S S     0.0000 g")]).is_err());
+}
+
+#[test]
+fn the_tally_reads_a_typed_tare_as_it_is_rounded() {
+    for History { name, scale, calls, accepted } in cases::histories() {
+        let told = Tally::new(&Profile { scale, ..Profile::a() }).take_lines(calls);
+        assert_eq!(told.is_ok(), accepted, "{name}: {told:?}");
+    }
 }
 
 /// The bytes of a whole buffer that were taken, each with its own answer: that of the first line and that of the second.
@@ -638,12 +739,13 @@ fn the_follower_reads_thresholds_and_tares() {
     }
     // A new SR keeps nothing of the older one.
     only_last_answer(&[&set("SR 1 g")[..], &[("SR", ZERO), ("s 3000", "S S     0.0030 g")]].concat(), &[""]);
-    // No zeroing and no taring moves the last net; a typed tare counts to the microgram.
+    // No zeroing and no taring moves the last net; a typed tare counts as it is rounded.
     only_last_when_started(&[("s 2000", ""), ("Z", "Z A"), ("s 4999", "")], &["S S     0.0030 g"]);
     only_last_when_started(&[("s 2000", ""), ("ZI", "ZI S"), ("s 5000", "S S     0.0030 g")], &[""]);
     only_last_when_started(&[("s 2999", ""), ("TI", "TI S     0.0030 g"), ("s 0", "")], &["S S    -0.0030 g"]);
     only_last_when_started(&[("TA 0.003 g", "TA A     0.0030 g"), ("s 0", "S S    -0.0030 g")], &[""]);
-    only_last_when_started(&[("TA 0.002999 g", "TA A     0.0030 g"), ("s 0", "")], &["S S    -0.0030 g"]);
+    only_last_when_started(&[("TA 0.00295 g", "TA A     0.0030 g"), ("s 0", "S S    -0.0030 g")], &[""]);
+    only_last_when_started(&[("TA 0.002949 g", "TA A     0.0029 g"), ("s 0", "")], &["S S    -0.0029 g"]);
     only_last_when_started(&[("TA 1 g", "TA A     1.0000 g"), ("TAC", "TAC A"), ("s 0", "")], &["S S    -1.0000 g"]);
 }
 

@@ -1,5 +1,6 @@
 //! The Rust that is written for speed gives the answers of the independent implementation, call by call and line by line.
 
+use benchmark::fast::weight as fast;
 use benchmark::feed::{call, profile_in, take, Implementation, Outcome, Taken, BUFFER, CALL};
 use benchmark::sides::{Fast, Independent};
 use benchmark::workload::{
@@ -9,14 +10,16 @@ use benchmark::workload::{
 use independent::module::Module;
 use independent::random;
 use independent::replay::{Called, Event, Replay};
+use independent::sweeps;
 use independent::tally::Call;
-use independent::weight::UNITS;
+use independent::weight::{number_text, typed_micrograms, typed_tare, UNITS};
 
 const PROFILES: usize = 64;
 const CALLS: usize = 200_000;
 const BUFFERS: usize = 6_000;
 const SCRIPTS: usize = 500;
 const LINES: usize = 50_000;
+const NUMBERS: usize = 500;
 
 /// The outcome of each record, with the buffer.
 fn outcomes<'a, I: Implementation>(
@@ -161,6 +164,34 @@ fn sr_sends_none_or_each_of_the_samples() {
         let profiles = profile_a();
         for (outcome, _) in outcomes::<Fast>(&profiles, &script.0).skip(before) {
             assert_eq!(outcome, Some(Outcome { refusal: 0, count }));
+        }
+    }
+}
+
+/// What TA and SR make of numbers up to every capacity, in every scale: at the ties of TA's two roundings, and any.
+#[test]
+fn typed_numbers_are_the_same() {
+    let mut rng = Rng::new(11);
+    for scale in sweeps::allowed_scales() {
+        let unit = UNITS.iter().position(|unit| *unit == scale.unit).expect("a unit") as u8;
+        let own = fast::Scale { unit: fast::Unit::at(unit), decimals: scale.decimals, step: scale.step };
+        let ties =
+            sweeps::second_ties(1_000_000_000, scale).into_iter().flatten().flat_map(|steps| 2 * steps - 1..=2 * steps + 1);
+        let halves = (0..10).chain(ties).flat_map(|halves| sweeps::typed_halves(halves, scale));
+        let any = (0..NUMBERS).map(|_| {
+            let (power, decimals) = (rng.below(11) as u32, rng.below(7) as u8);
+            number_text(rng.below(10u64.pow(power)).into(), decimals, false)
+        });
+        for number in halves.chain(any).chain(["9999999999".to_string()]) {
+            let text = number.as_bytes();
+            let within = |amount: &i128| *amount <= 1_000_000_000;
+            let (tare, threshold) = (typed_tare(text, scale, None), typed_micrograms(text, scale, None));
+            assert_eq!(fast::typed_tare(text, own).map(i128::from).filter(within), tare.filter(within), "{number} {scale:?}");
+            assert_eq!(
+                fast::typed_threshold(text, own).map(i128::from).filter(within),
+                threshold.filter(within),
+                "{number} {scale:?}"
+            );
         }
     }
 }

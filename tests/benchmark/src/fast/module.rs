@@ -2,7 +2,7 @@
 
 use super::command::{Command, Error, Status, LIST, VERSIONS};
 use super::profile::{is_printable, Profile, Text};
-use super::weight::{put_field, typed};
+use super::weight::{put_field, typed_tare, typed_threshold, Scale};
 use crate::feed::{Outcome, Taken};
 
 const CR: u8 = 13;
@@ -323,7 +323,7 @@ fn run<'a>(
         }
         Command::Ta => {
             if let Some(rest) = rest {
-                match preset(profile, rest) {
+                match preset(profile, rest, typed_tare) {
                     Some(amount) => now.tare = amount,
                     None => return Answer::Plain(Command::Ta, Status::L),
                 }
@@ -346,20 +346,20 @@ fn run<'a>(
     }
 }
 
-/// Number, space, the profile's unit; at most C.
-fn preset(profile: &Profile, rest: &[u8]) -> Option<i64> {
+/// Number, space, the profile's unit; at most C as it is read.
+fn preset(profile: &Profile, rest: &[u8], read: impl Fn(&[u8], Scale) -> Option<u64>) -> Option<i64> {
     let at = rest.iter().position(|&byte| byte == b' ')?;
     if &rest[at + 1..] != profile.scale.unit.name() {
         return None;
     }
-    let amount = typed(&rest[..at], profile.scale.unit)?;
+    let amount = read(&rest[..at], profile.scale)?;
     (amount <= u64::from(profile.capacity)).then_some(amount as i64)
 }
 
 /// What the parameter of SR sets; 0 where there is none.
 fn threshold(profile: &Profile, rest: Option<&[u8]>) -> Option<u32> {
     let Some(rest) = rest else { return Some(0) };
-    match preset(profile, rest)? {
+    match preset(profile, rest, typed_threshold)? {
         0 => None,
         amount => Some(amount as u32),
     }

@@ -150,15 +150,34 @@ fn decimal(text: &[u8]) -> Option<(u64, u8)> {
     }
 }
 
-/// A typed number in micrograms, rounded once, a tie upwards; none where it is no number or above every capacity.
-pub fn typed(text: &[u8], unit: Unit) -> Option<u64> {
+/// A number of at most ten characters.
+fn typed(text: &[u8]) -> Option<(u64, u8)> {
     if text.len() > 10 {
         return None;
     }
-    let (value, decimals) = decimal(text)?;
+    decimal(text)
+}
+
+/// The nearest microgram to a number with so many decimals, a tie upwards; none where it overflows, above every capacity by far.
+fn micrograms(value: u64, decimals: u8, unit: Unit) -> Option<u64> {
     let divisor = 1000 * POWERS[usize::from(decimals)];
-    // What overflows is above every capacity by far.
     Some(value.checked_mul(unit.nanograms())?.checked_add(divisor / 2)? / divisor)
+}
+
+/// SR's number in micrograms, rounded once; none where it is no number or above every capacity.
+pub fn typed_threshold(text: &[u8], scale: Scale) -> Option<u64> {
+    let (value, decimals) = typed(text)?;
+    micrograms(value, decimals, scale.unit)
+}
+
+/// TA's number in micrograms, rounded to the nearest display step first, a tie upwards; none where it is no number or above every
+/// capacity. The scale is allowed, and ten digits with six places more don't overflow.
+pub fn typed_tare(text: &[u8], scale: Scale) -> Option<u64> {
+    let (value, decimals) = typed(text)?;
+    let step = u64::from(scale.step);
+    let divisor = step * POWERS[usize::from(decimals)];
+    let steps = (value * POWERS[usize::from(scale.decimals)] + divisor / 2) / divisor;
+    micrograms(steps * step, scale.decimals, scale.unit)
 }
 
 /// The number and the decimals of ten characters, if they are written as `put_field` writes them.

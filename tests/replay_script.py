@@ -77,6 +77,7 @@ def power_on(given=PROFILE_A, *texts):
 
 # ---- "Commands carried"
 
+UNITS = "g mg ct oz ozt GN dwt".split()
 NAMES = "I0 I1 I2 I3 I4 I5 S SI SIR Z ZI @ D DW SR T TA TAC TI".split()
 WITH_PARAMETERS = ("D", "TA", "SR")
 WAITING = ("S", "T", "Z", "SR")
@@ -217,8 +218,9 @@ def exact_weights():
     watch("s 4400000", "> ZI", "s -4400000", "> Z")
     # Gross is load - zero.
     watch("s 0", "> T", "> @")
-    # A typed tare: one microgram, six decimals, and above C.
-    watch("> TA 0.000001 g", "> TA 123.456789 g", "> TA 220.000001 g", "> TA", "> @")
+    # A typed tare, which is rounded to the display step: one microgram, six decimals, C, above C.
+    watch("> TA 0.000001 g", "> TA 123.456789 g", "> TA 220.000001 g", "> TA 220.00005 g", "> TA")
+    watch("> @")
     # The ends of 32 bits.
     watch("s 2147483647", "u -2147483648")
     # Typed in mg: half a microgram is rounded up, less is not.
@@ -404,8 +406,8 @@ def order_6_wrong_parameters():
     play("> TA . g", "> TA .5 g", "> TA 5. g", "> TA 1..2 g", "> TA 1.2.3 g")
     # TA: digits alone.
     play("> TA +1 g", "> TA -1 g", "> TA 1e1 g", "> TA 1,5 g")
-    # TA: 7 decimals; 11 characters; above C by a microgram, and by far.
-    play("> TA 0.0000001 g", "> TA 00000000001 g", "> TA 220.000001 g", "> TA 9999999999 g")
+    # TA: 7 decimals; 11 characters; above C by a display step, and by far.
+    play("> TA 0.0000001 g", "> TA 00000000001 g", "> TA 220.00005 g", "> TA 9999999999 g")
 
 
 def order_7_no_sample():
@@ -768,8 +770,8 @@ def bench_zero_and_tare():
     play("s 10000050", "> T", "s 10000100", "> S")
     # The typed tares.
     power_on()
-    play("> TA 100.00 g")
-    play("> TA -1 g", "> TA 220.000001 g", "> TA 100.00 G", "> TA 1. g", "> TA")
+    play("> TA 100.00 g", "> TA 220.000001 g")
+    play("> TA -1 g", "> TA 100.00 G", "> TA 1. g", "> TA")
 
 
 def bench_waiting_and_lines():
@@ -874,9 +876,9 @@ def sr_last_net():
     # Not the printed number: 49 micrograms count.
     power_on()
     watch("s 49", "> SR", "s 3048", "u 3048", "s 3049")
-    # A typed tare counts to the microgram.
+    # A typed tare counts as it is rounded.
     power_on()
-    watch("s 0", "> SR", "> TA 0.002999 g", "s 0", "> TA 0.003 g", "s 0")
+    watch("s 0", "> SR", "> TA 0.002949 g", "s 0", "> TA 0.00295 g", "s 0")
 
 
 def sr_owed():
@@ -936,7 +938,7 @@ def sr_threshold():
 
 
 def sr_parameter():
-    part("SR with a parameter, which is read as TA reads its number: 1 microgram to C.")
+    part("SR with a parameter, of the form of TA's: 1 microgram to C.")
     power_on()
     watch("> SR ", "> SR 1", "> SR 1 G", "> SR 1. g", "> SR  1 g", "> SR 0 g", "> SR 220.000001 g")
     play("> SR 1 g ", "> SR 1  g", "> SR 1g", "> SR 1 mg", "> SR -1 g", "> SR .5 g", "> SR 1.2.3 g")
@@ -1211,6 +1213,85 @@ def buffer_conversation():
     watch(whole("\r\n"), "s 200000000", whole("SI\r\n@\r\n"))
 
 
+# ---- Document 02, No. 3: a typed tare has readable places only
+
+
+def typed_halves(count, unit, d, k):
+    """TA with so many half display steps, which six decimals can write, and at both sides."""
+    millionths = count * k * 10 ** (6 - d) // 2
+    return [f"> TA {near // 10**6}.{near % 10**6:06} {unit}"
+            for near in range(millionths - 1, millionths + 2)]
+
+
+def typed_steps():
+    part("A typed tare is rounded to the nearest display step, a tie upwards, "
+         "and what it answers can be typed again.")
+    power_on()
+    watch("> TA 0.00005 g", "> TA 0.0001 g", "> TA 0.000049 g", "s 9999951", "> SI")
+    power_on(profile(k=5))
+    watch("> TA 0.00025 g", "> TA 0.0005 g", "> TA 0.000249 g", "> TA 1.0007 g", "> TA 1.0008 g")
+    # Every unit and step; the largest number that can be typed.
+    for unit in UNITS:
+        for k in (1, 2, 5):
+            power_on(small(c=10_000_000, unit=unit, d=2, k=k))
+            play(*typed_halves(3, unit, 2, k), f"> TA 9999999999 {unit}", "state")
+
+
+# Weights halfway between two micrograms: unit, decimals, half last places, and the micrograms that
+# they are rounded to. The steps of g, mg and ct are whole micrograms.
+SECOND_TIES = [
+    ("oz", 5, 800_000, 113_398_093),
+    ("ozt", 5, 62_500, 9_719_837),
+    ("GN", 4, 1_000_000, 3_239_946),
+    ("dwt", 4, 125_000, 9_719_837),
+]
+
+
+def typed_micrograms():
+    part("The rounded decimal is rounded to the nearest microgram, a tie upwards.")
+    power_on(profile(unit="oz", d=5))
+    watch("> TA 4 oz", "s 113398234", "> SI", "s 113398235", "> SI", "> TA 1.000005 oz")
+    watch("> TA 3.999995 oz", "> TA 3.999994 oz")
+    # Every unit that has such a tie, in every step; the decimal, and what is rounded up to it.
+    for unit, d, halves, _ in SECOND_TIES:
+        for k in (1, 2, 5):
+            power_on(profile(unit=unit, d=d, k=k))
+            watch(typed_halves(halves // k, unit, d, k)[1])
+            watch(*typed_halves(halves // k - 1, unit, d, k)[:2])
+    # The micrograms of the typed number decide nothing.
+    power_on(small(c=99_999_999, unit="mg", d=2))
+    watch("> TA 0.0045 mg", "> TA 0.004999 mg", "> TA 0.005 mg")
+
+
+def typed_limits():
+    part("L above C: the microgram result alone is compared, at C and a microgram beside it.")
+    power_on()
+    watch("> TA 220.000001 g", "> TA 220.000049 g", "> TA 220.00005 g")
+    power_on(small(c=1_000_000_000, d=0, k=5))
+    watch("> TA 1002.4 g", "> TA 1002.5 g")
+    power_on(small(c=1_000_000_000, unit="oz", d=0, k=5))
+    watch("> TA 37.4 oz", "> TA 37.5 oz")
+    # Below C as it is typed, above it once rounded.
+    power_on(small(c=218_000_000, d=0, k=5))
+    watch("> TA 217.4 g", "> TA 217.5 g", "> TA 218 g")
+    # 35 oz are 992,233,309.375 micrograms.
+    for c in (992_233_308, 992_233_309, 992_233_310):
+        power_on(small(c=c, unit="oz", d=0, k=5))
+        play("> TA 35 oz", "state")
+    for unit, d, halves, micrograms in SECOND_TIES:
+        for c in range(micrograms - 1, micrograms + 2):
+            power_on(small(c=c, unit=unit, d=d))
+            play(typed_halves(halves, unit, d, 1)[1], "state")
+
+
+def typed_thresholds():
+    part("SR's number is rounded to the microgram alone.")
+    power_on()
+    watch("> SR 220.000001 g", "> SR 0.00004 g", "> @", "> SR 0.000051 g", "> @")
+    power_on(profile(unit="oz", d=5))
+    watch("> SR 4 oz", "> @", "> SR 1.000005 oz", "> @")
+
+
 def conversation():
     part("Document 01's conversation.")
     power_on()
@@ -1280,7 +1361,7 @@ def comments_and_last_line():
 
 
 def head():
-    play("# Plays every rule of document 01 once, and document 02's No. 1 and No. 2. "
+    play("# Plays every rule of document 01 once, and document 02's No. 1 to No. 3. "
          "Its stdout is what the independent implementation prints for it.")
     play("# Profile A stands at the start: C 220 g, U 1 g, R 4.4 g, W 3, g, 4 decimals, step 1, "
          "I4 VA-0001, the other texts empty.")
@@ -1358,6 +1439,11 @@ SCRIPT = [
     buffer_refusals,
     buffer_drivers,
     buffer_conversation,
+    # Typed tares.
+    typed_steps,
+    typed_micrograms,
+    typed_limits,
+    typed_thresholds,
     # The profile.
     text_lengths,
     text_bytes,

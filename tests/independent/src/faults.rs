@@ -22,9 +22,9 @@ faults! {
     TypedSevenDecimals, TypedElevenCharacters, TypedBarePoint, TypedUnitIgnored, TypedTwoSpaces, ThresholdTieDownwards,
     ThresholdCut,
     // typed tares
-    TypedRoundedOnce, TypedMicrogramFirst, TypedFirstTieDownwards, TypedFirstCut, TypedStepIgnored, TypedSecondTieDownwards,
-    TypedSecondCut, TypedAboveCapacityTaken, TypedLimitBeforeBoth, TypedLimitBeforeSecond, TypedHeldToCapacity, TypedZeroRefused,
-    ThresholdRoundedToStep,
+    TypedRoundedOnce, TypedMicrogramFirst, TypedFirstTieDownwards, TypedFirstCut, TypedStepIgnored, TypedShortUnrounded,
+    TypedLastPlaceFirst, TypedSecondTieDownwards, TypedSecondCut, TypedAboveCapacityTaken, TypedLimitBeforeBoth,
+    TypedLimitBeforeSecond, TypedHeldToCapacity, TypedCutTo32Bits, TypedZeroRefused, ThresholdRoundedToStep,
     // the profile
     MarginUnchecked, ZeroingRangeUnchecked, PatienceOfThousandOne, PatienceOfZero, CapacityOverLimit, CapacityOfZero,
     StepOfThree, SevenDecimals, StepBelowMicrogram, OnlyCapacityFits, NoNetNeedsToFit, QuoteInText, ControlInText,

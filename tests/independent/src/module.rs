@@ -492,6 +492,7 @@ impl Module {
             Some(Fault::TypedLimitBeforeBoth) if before()?.0 > capacity => None,
             Some(Fault::TypedLimitBeforeSecond) if before()?.1 > capacity => None,
             Some(Fault::TypedHeldToCapacity) if before()?.0 <= capacity => Some(tare.min(capacity) as i64),
+            Some(Fault::TypedCutTo32Bits) => Some(i64::from(tare as u32)).filter(|tare| i128::from(*tare) <= capacity),
             _ => (tare <= capacity + i128::from(self.has(Fault::TypedAboveCapacityTaken))).then_some(tare as i64),
         }
     }

@@ -154,7 +154,7 @@ fn at_a_step(rng: &mut Rng, profile: Profile) -> Profile {
     let (above, below) = (i128::from(step) * unit.nanograms(), 1000 * ten_to(decimals.into()));
     let most = i128::from(profile.capacity) * below / above;
     let any = rng.between(0, most);
-    let steps = if rng.chance(50) { some_tie(rng, above, below, 0, most).unwrap_or(any) } else { any };
+    let steps = if rng.chance(30) { some_tie(rng, above, below, 0, most).unwrap_or(any) } else { any };
     let micrograms = (2 * steps * above + below) / (2 * below) + rng.pick(&[-1, 0, 0, 0, 1]);
     with_capacity(profile, micrograms.max(0) as u32)
 }
@@ -342,7 +342,8 @@ impl Maker<'_> {
             28 => self.odd_buffer(),
             29..=30 => self.show(),
             31..=59 => self.command(),
-            60..=71 => self.odd_line(),
+            60..=69 => self.odd_line(),
+            70..=71 => self.type_tares(),
             72..=78 => self.raw_line(),
             79..=81 => self.short_room(),
             82..=84 => self.other_profile(),
@@ -477,7 +478,7 @@ impl Maker<'_> {
         let number = self.odd_number(number);
         let unit = self.replay.profile.scale.unit.name().to_string();
         let other = self.rng.pick(&UNITS).name();
-        let text = match self.rng.below(24) {
+        let text = match self.rng.below(36) {
             0 => format!("{name} {number}"),
             1 => format!("{name} {number} {other}"),
             2 => format!("{name} {number} {}", unit.to_uppercase()),
@@ -495,19 +496,20 @@ impl Maker<'_> {
     }
 
     /// A number that TA rounds to some display steps, at a tie or beside one: to those near C, to those at a tie of the second
-    /// rounding, or to any.
+    /// rounding, or to any; now and then with as many more as 32 bits lose.
     fn typed_tare(&mut self) -> String {
         let Profile { capacity, scale: Scale { unit, decimals, step }, .. } = self.replay.profile;
         let (k, decimals) = (i128::from(step.max(1)), decimals.min(6));
         let (above, below) = (k * unit.nanograms(), 1000 * ten_to(decimals.into()));
         let most = (2 * i128::from(capacity) * below + above) / (2 * above);
         let steps = match self.rng.below(10) {
-            0..=2 => most + self.rng.pick(&[-1, 0, 0, 0, 1]),
-            3..=5 => some_tie(self.rng, above, below, 0, most).unwrap_or(most),
-            6 => self.rng.between(0, 3),
+            0..=3 => most + self.rng.pick(&[-1, 0, 0, 0, 1]),
+            4..=6 => some_tie(self.rng, above, below, 0, most).unwrap_or(most),
+            7 => self.rng.between(0, 3),
             _ => self.rng.between(0, most),
         };
-        let halves = (2 * steps + self.rng.pick(&[-1, -1, 0, 1, 1])).max(0);
+        let lost = if self.rng.chance(5) { (below << 32) / above } else { 0 };
+        let halves = (2 * (steps + lost) + self.rng.pick(&[-1, -1, 0, 1, 1])).max(0);
         let (above, below) = (halves * k, 2 * ten_to(decimals.into()));
         let longest = 9usize.saturating_sub((above / below).to_string().len()).min(6);
         let typed = if self.rng.chance(70) { longest } else { self.rng.below(longest + 1) } as u8;
@@ -1131,17 +1133,37 @@ impl Maker<'_> {
         self.set_profile(&former, with_texts);
     }
 
-    /// A tare that does not stand at a display step, or a typed one, then weights around a tie.
+    /// Typed tares, with weights around a tie; now and then one again where C is what it set, or a microgram beside it.
+    fn type_tares(&mut self) {
+        for _ in 0..self.rng.between(2, 6) {
+            let line = self.typed_line("TA");
+            self.send(line.clone());
+            if self.rng.chance(20) {
+                self.type_at_capacity(line);
+            } else if self.rng.chance(70) {
+                self.sample();
+                self.say("> SI");
+            }
+        }
+    }
+
+    fn type_at_capacity(&mut self, line: Vec<u8>) {
+        let former = self.replay.profile.clone();
+        let most = self.state().tare as u32 + 1;
+        let other = with_capacity(former.clone(), most.saturating_sub(self.rng.below(3) as u32));
+        self.say("> TAC");
+        self.set_profile(&other, false);
+        self.send(line);
+        self.say("> TAC");
+        self.set_profile(&former, false);
+    }
+
+    /// A tare that does not stand at a display step, then weights around a tie.
     fn tare_and_weigh(&mut self) {
         let stable = self.rng.chance(60);
         self.sample_of(stable);
-        if self.rng.chance(50) {
-            let line = self.typed_line("TA");
-            self.send(line);
-        } else {
-            let name = self.rng.pick(&["> T", "> TI", "> ZI", "> Z"]);
-            self.say(name);
-        }
+        let name = self.rng.pick(&["> T", "> TI", "> ZI", "> Z"]);
+        self.say(name);
         for _ in 0..3 {
             self.sample();
             self.say("> SI");

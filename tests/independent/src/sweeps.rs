@@ -137,7 +137,8 @@ pub fn second_ties(micrograms: i128, scale: Scale) -> Option<[i128; 2]> {
     (first <= most).then(|| [first, first + (most - first) / every * every])
 }
 
-/// Both sides of the ties of both roundings, small and at the capacity, and the largest numbers that can be typed.
+/// Both sides of the ties of both roundings, small and at the capacity, and the largest numbers that can be typed; and what SR makes
+/// of the first of these.
 fn typed_ties(scale: Scale) -> Script {
     let profile = with_widest_capacity(scale);
     let capacity = i128::from(profile.capacity);
@@ -146,12 +147,14 @@ fn typed_ties(scale: Scale) -> Script {
     let second = second_ties(capacity, scale).into_iter().flatten().flat_map(|steps| 2 * steps - 1..=2 * steps + 1);
     let numbers = first.into_iter().chain(second).flat_map(|halves| typed_halves(halves, scale));
     let nines = (0..7).map(|decimals| number_text(ten_to(if decimals == 0 { 10 } else { 9 }) - 1, decimals, false));
-    let typed = numbers.chain(nines).map(|number| typed_line(&number, scale));
-    script([text_of(profile_line(&profile)), "on".to_string()].into_iter().chain(typed))
+    let numbers: Vec<String> = numbers.chain(nines).collect();
+    let tares = numbers.iter().map(|number| typed_line("TA", number, scale));
+    let thresholds = numbers[..4].iter().flat_map(|number| [typed_line("SR", number, scale), "> @".to_string()]);
+    script([text_of(profile_line(&profile)), "on".to_string()].into_iter().chain(tares).chain(thresholds))
 }
 
-fn typed_line(number: &str, scale: Scale) -> String {
-    format!("> TA {number} {}", scale.unit.name())
+fn typed_line(name: &str, number: &str, scale: Scale) -> String {
+    format!("> {name} {number} {}", scale.unit.name())
 }
 
 /// Tares of some display steps and both ends of what is rounded to them, where C is a microgram less, the same and one more.
@@ -165,7 +168,7 @@ fn typed_beside_capacity(scale: Scale) -> Script {
         let numbers: Vec<String> = (2 * steps - 1..=2 * steps + 1).flat_map(|halves| typed_halves(halves, scale)).collect();
         (tare.max(2) - 1..=tare + 1).flat_map(move |capacity| {
             let profile = Profile { capacity, margin: 0, zeroing: 0, scale, ..Profile::a() };
-            let typed = numbers.clone().into_iter().map(|number| typed_line(&number, scale));
+            let typed = numbers.clone().into_iter().map(|number| typed_line("TA", &number, scale));
             [text_of(profile_line(&profile)), "on".to_string()].into_iter().chain(typed).collect::<Vec<_>>()
         })
     }))

@@ -163,8 +163,15 @@ fn typed_places(text: &[u8], scale: Scale, fault: Option<Fault>) -> Option<i128>
         return Some(last_places(typed_micrograms(text, scale, None)?, scale, None));
     }
     let (number, decimals) = typed_number(text, fault)?;
-    let k = if fault == Some(Fault::TypedStepIgnored) { 1 } else { i128::from(scale.step) };
-    let (places, below) = (number * ten_to(scale.decimals.into()), k * ten_to(decimals));
+    let k = match fault {
+        Some(Fault::TypedStepIgnored) => 1,
+        Some(Fault::TypedShortUnrounded) if decimals <= scale.decimals.into() => 1,
+        _ => i128::from(scale.step),
+    };
+    let (mut places, mut below) = (number * ten_to(scale.decimals.into()), k * ten_to(decimals));
+    if fault == Some(Fault::TypedLastPlaceFirst) {
+        (places, below) = ((2 * places + ten_to(decimals)) / (2 * ten_to(decimals)), k);
+    }
     Some(nearest_upwards(places, below, fault, Fault::TypedFirstTieDownwards, Fault::TypedFirstCut) * k)
 }
 

@@ -41,8 +41,11 @@ const JUDGED: &[Fault] = &[
     Fault::TypedFirstTieDownwards,
     Fault::TypedFirstCut,
     Fault::TypedStepIgnored,
+    Fault::TypedShortUnrounded,
+    Fault::TypedLastPlaceFirst,
     Fault::TypedSecondCut,
     Fault::TypedHeldToCapacity,
+    Fault::TypedCutTo32Bits,
     Fault::QueryClearsTare,
 ];
 
@@ -112,13 +115,17 @@ const OF_TYPED_TARES: &[Fault] = &[
     Fault::TypedFirstTieDownwards,
     Fault::TypedFirstCut,
     Fault::TypedStepIgnored,
+    Fault::TypedShortUnrounded,
+    Fault::TypedLastPlaceFirst,
     Fault::TypedSecondTieDownwards,
     Fault::TypedSecondCut,
     Fault::TypedAboveCapacityTaken,
     Fault::TypedLimitBeforeBoth,
     Fault::TypedLimitBeforeSecond,
     Fault::TypedHeldToCapacity,
+    Fault::TypedCutTo32Bits,
     Fault::TypedZeroRefused,
+    Fault::ThresholdRoundedToStep,
 ];
 
 /// Faults of the tally for which it rejects answers of the good module; the others let more pass, as constructed histories show.

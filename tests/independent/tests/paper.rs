@@ -4,6 +4,7 @@ use independent::buffer::{Taken, MOST_BYTES};
 use independent::cases::{self, run, History};
 use independent::compare::shown;
 use independent::decode::decode;
+use independent::faults::Fault;
 use independent::module::{Line, Module, Outcome, Repetition, Sample, State, Wait};
 use independent::on_change::OnChange;
 use independent::profile::Profile;
@@ -588,6 +589,12 @@ fn the_tally_reads_a_typed_tare_as_it_is_rounded() {
     for History { name, scale, calls, accepted } in cases::histories() {
         let told = Tally::new(&Profile { scale, ..Profile::a() }).take_lines(calls);
         assert_eq!(told.is_ok(), accepted, "{name}: {told:?}");
+    }
+    // Document 01's tally, which read the number unrounded, thought otherwise of the first two.
+    for History { name, scale, calls, accepted } in &cases::histories()[..2] {
+        let former =
+            Tally::faulty(&Profile { scale: *scale, ..Profile::a() }, Some(Fault::TallyReadsUnrounded)).take_lines(calls);
+        assert_ne!(former.is_ok(), *accepted, "{name}: {former:?}");
     }
 }
 

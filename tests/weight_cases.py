@@ -126,14 +126,35 @@ def tie(unit, decimals, step, size):
     lines.append(f"tie {named_resolution(unit, decimals, step)} {size}{fields}")
 
 
-def typed(unit, text):
-    exact = typed_micrograms(unit, text)
+def half_up(exact):
+    """The nearest whole number, a tie upwards."""
+    return math.floor(exact + Fraction(1, 2))
+
+
+def amount(exact):
+    """What a typed number is stored as."""
     if exact is None:
-        answer = " no"
-    else:
-        amount = math.floor(exact + Fraction(1, 2))
-        answer = " too large" if amount > LARGEST_CAPACITY else in_brackets(field(0, amount))
-    lines.append(f'typed {unit:3} "{text}"{answer}')
+        return " no"
+    rounded = half_up(exact)
+    return " too large" if rounded > LARGEST_CAPACITY else in_brackets(field(0, rounded))
+
+
+def typed(unit, text):
+    lines.append(f'typed {unit:3} "{text}"{amount(typed_micrograms(unit, text))}')
+
+
+def preset_micrograms(unit, decimals, step, text):
+    """The exact micrograms of the nearest display step, or None."""
+    exact = typed_micrograms(unit, text)
+    if exact is None or not allowed(unit, decimals, step):
+        return None
+    display_step = Fraction(step * UNITS[unit], 1000 * 10**decimals)
+    return half_up(exact / display_step) * display_step
+
+
+def preset(unit, decimals, step, text):
+    exact = preset_micrograms(unit, decimals, step, text)
+    lines.append(f'preset {named_resolution(unit, decimals, step)} "{text}"{amount(exact)}')
 
 
 def found(text):
@@ -343,6 +364,47 @@ def typed_large_cases():
             typed(unit, text)
 
 
+def presets(unit, decimals, step, texts):
+    for text in texts.split():
+        preset(unit, decimals, step, text)
+
+
+def preset_request_cases():
+    """Document 02, No. 3, and its corners."""
+    presets("g", 4, 1, "220.000001 220.000049 220.00005 0.00005 0.000049")
+    presets("g", 4, 5, "0.00025 0.000249")
+    presets("g", 0, 5, "1002.4 1002.5")
+    presets("oz", 0, 5, "37.4 37.5")
+    presets("oz", 5, 1, "4 1.000005 1.000004")
+    # No number; no profile's resolution.
+    presets("g", 4, 1, "1. 00000000001")
+    for unit, decimals, step in [("g", 4, 0), ("g", 4, 3), ("GN", 5, 1), ("oz", 7, 5)]:
+        assert not allowed(unit, decimals, step)
+        preset(unit, decimals, step, "1")
+
+
+def preset_first_tie_cases():
+    for unit in UNITS:
+        presets(unit, 2, 1, "1.005 1.004999 9999999999")
+        presets(unit, 2, 2, "1.01 1.009999 9999999999")
+        presets(unit, 2, 5, "1.025 1.024999 9999999999")
+        presets(unit, 0, 5, "2.5 2.499999 9999999999")
+
+
+def preset_second_tie_cases():
+    for unit, decimals, texts in [
+        ("oz", 5, "4! 3.999995! 4.000004! 3.999994"),
+        ("ozt", 5, "0.3125! 0.312495! 0.312504! 0.312494"),
+        ("GN", 4, "50! 49.99995! 50.00004! 49.99994"),
+        ("dwt", 4, "6.25! 6.24995! 6.25004! 6.24994"),
+        ("mg", 3, "0.0005 0.000499"),
+    ]:
+        for text in texts.split():
+            exact = preset_micrograms(unit, decimals, 1, text.rstrip("!"))
+            assert (exact % 1 == Fraction(1, 2)) == text.endswith("!"), (unit, text)
+            preset(unit, decimals, 1, text.rstrip("!"))
+
+
 def written_cases():
     for decimals in range(MOST_DECIMALS + 2):
         one = 10**decimals
@@ -427,6 +489,9 @@ def expected():
     typed_cases()
     typed_tie_cases()
     typed_large_cases()
+    preset_request_cases()
+    preset_first_tie_cases()
+    preset_second_tie_cases()
     written_cases()
     read_cases()
     other_cases()

@@ -2,8 +2,8 @@
 -- a line ends and where a sample ends a wait.
 -- Assumes nothing.
 use Prim.Native.Nat.{ℕ, _≤_}
-use mathlib.Core.Path.{_≡_, refl, sym}
-use mathlib.Core.Bool.{Bool, true, false, _||_}
+use mathlib.Core.Path.{_≡_, refl, sym, _∙_}
+use mathlib.Core.Bool.{Bool, true, false, not, _||_, and-false, or-true}
 use mathlib.Core.List.{List}
 use lib.IntN.{pos, negℤ, natAbs}
 use lib.Signed.{ltZ}
@@ -19,13 +19,16 @@ use Rattle.weighing.specs.Weighings.{stability, grossOf, netOf, numberOf, inLim
 use Rattle.device.specs.Calls.{answerBytes}
 use Rattle.model.specs.Profiles.{profileAllowed}
 use Rattle.text.specs.Ascii.{ascii, sameText}
+use Rattle.text.specs.Field.{fieldOf}
 use Rattle.text.specs.Reading.{isDecimal}
-use Rattle.weight.specs.Rounding.{exactFemtograms, halfUp, Near}
+use Rattle.weight.specs.Rounding.{exactFemtograms, halfUp, placesOf, Near}
 use Rattle.weight.specs.Printing.{printable}
 use Rattle.model.proofs.ProfileFacts.{allowed-profile}
 use Rattle.weight.proofs.HalfStep.{rounded-exact}
+use Rattle.text.proofs.Named.{same-self}
 use Rattle.weight.proofs.Nearness.{near-refl}
-use Rattle.history.specs.Tally.{Tally, Input, taken, ends, endedText, typedText, typedTare, afterReset, tallied, holds}
+use Rattle.history.specs.Tally.{Tally, Input, taken, ends, endedText, typedText, typedTare, tenOf, tellsTare, grantsTyped, afterReset, tallied, holds}
+use Rattle.history.specs.TypedTares.{typedField, showsTyped}
 use Rattle.history.proofs.AnswerKinds.{Denied, Silent, Zeroes, Tares, Weighs, over-denied, under-denied, weighed-weighs, cleared-clears, told-tells}
 use Rattle.history.proofs.DueWeights.{net-printable, gross-printable, tare-printable}
 use Rattle.history.proofs.Following.{Follows, is-loaded, latest-is, gross-is, net-near, tare-near}
@@ -36,11 +39,26 @@ use Rattle.history.proofs.WeightLines.{Shows, weighed-shows, told-shows
 -- the tally accepts the answer l to the input i, and follows the weighing w after it
 pub record Answered (p : Profile) (t : Tally) (i : Input) (w : Weighing) (l : List ℕ) : Type 0 where
   pub accepted : holds p t i l ≡ true
+  pub shown : showsTyped p t i l ≡ true
   pub follows : Follows w (tallied p t i l)
+
+-- no TA A, or one to the line TA
+untold-shown : (p : Profile) (t : Tally) (i : Input) (l : List ℕ) → tellsTare l ≡ false → showsTyped p t i l ≡ true
+unfolding showsTyped
+untold-shown p t i l e = rw e
+
+alone-shown : (p : Profile) (t : Tally) (i : Input) (l : List ℕ) → sameText (endedText t i) (ascii "TA") ≡ true → showsTyped p t i l ≡ true
+unfolding showsTyped
+alone-shown p t i l e = rw (e, and-false (tellsTare l))
+
+-- the ten characters that are due
+typed-shown : (p : Profile) (t : Tally) (i : Input) (l : List ℕ) → tenOf l ≡ typedField p (endedText t i) → showsTyped p t i l ≡ true
+unfolding showsTyped
+typed-shown p t i l e = rw (e, same-self (typedField p (endedText t i))) (or-true (not (grantsTyped t i l)))
 
 -- an answer that grants and weighs nothing
 pub answered-silent : (p : Profile) (t : Tally) (i : Input) (w : Weighing) (l : List ℕ) → Follows w (afterReset t i (taken t i)) → Silent l → Answered p t i w l
-answered-silent p t i w l f k = record { accepted = silent-holds p t i l k; follows = rw (after-denied p t i l k) f }
+answered-silent p t i w l f k = record { accepted = silent-holds p t i l k; shown = untold-shown p t i l (k .told-is); follows = rw (after-denied p t i l k) f }
 
 -- no tare, and one of whole micrograms, rounded
 pub zero-rounded : 0 ≡ halfUp 0 1_000_000_000
@@ -61,7 +79,11 @@ module _ (p : Profile) (t : Tally) (i : Input) (w : Weighing) (not-reset : after
   -- + or -, which a load is needed for
   answered-denied : (l : List ℕ) → Denied l → w .sampled ≡ true → Answered p t i w l
   answered-denied l k sampled =
-      record { accepted = denied-holds p t i l k (is-loaded w (taken t i) f sampled); follows = rw (after-denied p t i l k, not-reset) f }
+      record {
+        accepted = denied-holds p t i l k (is-loaded w (taken t i) f sampled);
+        shown = untold-shown p t i l (k .told-is);
+        follows = rw (after-denied p t i l k, not-reset) f;
+      }
 
   -- ---- Z, ZI
 
@@ -69,6 +91,7 @@ module _ (p : Profile) (t : Tally) (i : Input) (w : Weighing) (not-reset : after
   zero-granted l k sampled =
       record {
         accepted = zeroes-holds p t i l k (is-loaded w (taken t i) f sampled);
+        shown = untold-shown p t i l (k .told-is);
         follows =
             rw (after-zeroes p t i l k, not-reset)
             (record { latest = f .latest; zero = latest-is w (taken t i) f sampled; tare = rw zero-exact (near-refl 0 (pos 0)); rounded = zero-rounded });
@@ -99,6 +122,7 @@ module _ (p : Profile) (t : Tally) (i : Input) (w : Weighing) (not-reset : after
   answered-cleared =
       record {
         accepted = clears-holds p t i _ (cleared-clears p);
+        shown = untold-shown p t i _ (cleared-clears p .told-is);
         follows =
             rw (after-clears p t i _ (cleared-clears p), not-reset)
             (record { latest = f .latest; zero = f .zero; tare = rw zero-exact (near-refl 0 (pos 0)); rounded = zero-rounded });
@@ -121,6 +145,7 @@ module _ (p : Profile) (t : Tally) (i : Input) (w : Weighing) (not-reset : after
               (rw (after-weighs p t i l k, not-reset, k .net-is) (net-near p (allowed-profile p allowed .resolution) w (taken t i) f sampled))
               k
               (is-loaded w (taken t i) f sampled);
+          shown = untold-shown p t i l (k .told-is);
           follows = rw (after-weighs p t i l k, not-reset) f;
         }
 
@@ -161,6 +186,7 @@ module _ (p : Profile) (t : Tally) (i : Input) (w : Weighing) (not-reset : after
                 (rw natural at (tare-near p (allowed-profile p allowed .resolution) (withTare w (natAbs (grossOf w))) (tallied p t i l) tare-followed)))
                 k
                 (is-loaded w (taken t i) f sampled);
+            shown = untold-shown p t i l (k .told-is);
             follows = tare-followed;
           }
 
@@ -207,6 +233,7 @@ module _ (p : Profile) (t : Tally) (i : Input) (w : Weighing) (not-reset : after
               k
               end
               alone;
+          shown = alone-shown p t i l alone;
           follows = g;
         }
 
@@ -218,21 +245,24 @@ module _ (p : Profile) (t : Tally) (i : Input) (w : Weighing) (not-reset : after
         → isDecimal (typedText (endedText t i)) ≡ true
         → Near 1_000_000_000 (exactFemtograms (pos m)) (typedTare p (endedText t i))
         → m ≡ halfUp (natAbs (typedTare p (endedText t i))) 1_000_000_000
+        → fieldOf (p .resolution .decimals) (placesOf (p .resolution) (pos m)) ≡ typedField p (endedText t i)
         → m ≤ p .capacity
         → Answered p t i (withTare w m) (answerBytes p (tareAnswer p m))
-    answered-typed m end other decimal off rounded range =
+    answered-typed m end other decimal off rounded printed range =
         let k = told-tells p (numberOf p (pos m)) in
         let l = answerBytes p (tareAnswer p m) in
+        let s : Shows p (pos m) l = told-shows p (pos m) (tare-printable p allowed m range) in
         let g : Follows (withTare w m) (tallied p t i l) =
         rw (after-typed p t i l k other, not-reset) (record { latest = f .latest; zero = f .zero; tare = off; rounded = rounded }) in
         record {
           accepted =
               typed-holds p t i l (pos m)
-              (told-shows p (pos m) (tare-printable p allowed m range))
+              s
               (rw (k .net-is) (tare-near p (allowed-profile p allowed .resolution) (withTare w m) (tallied p t i l) g))
               k
               end
               other
               decimal;
+          shown = typed-shown p t i l (s .ten ∙ printed);
           follows = g;
         }

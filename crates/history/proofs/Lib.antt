@@ -21,6 +21,7 @@ pub mod StandsFor
 mod Stepping
 mod Tallying
 mod TypedLines
+pub mod TypedTares
 mod Verdicts
 pub mod WaitsEnd
 mod WaitsStep

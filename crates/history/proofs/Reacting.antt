@@ -1,7 +1,7 @@
 -- The tally accepts what a finished line and a sample make of the state, and follows it.
 -- Assumes nothing.
 use Prim.Native.Nat.{ℕ, _≤_}
-use mathlib.Core.Path.{_≡_, refl}
+use mathlib.Core.Path.{_≡_, refl, ap}
 use mathlib.Core.Bool.{Bool, true, false, _&&_}
 use mathlib.Core.List.{List}
 use lib.Dec.{leb}
@@ -31,6 +31,7 @@ use Rattle.line.specs.declared.judge.Verdict.the-variants as verdicts
 use Rattle.line.specs.declared.receive.Line.{Line}
 use Rattle.line.specs.Unbounded.{Marked, endsUnbounded, finishedLine}
 use Rattle.line.proofs.Proper.{Ruled}
+use Rattle.text.specs.Field.{fieldOf}
 use Rattle.weight.proofs.Allowed.{both-right}
 use Rattle.weight.proofs.Nearness.{near-refl}
 use Rattle.history.specs.Tally.{Tally, Input, byteIs, sampleIs, taken, ends, endedText, isResetLine, afterReset, withTareOf}
@@ -178,7 +179,7 @@ module _
     performed-reacted l (Preset n) says =
         let typed = says .typed in
         answered-typed p t (byteIs m) (s .weighing) (no-reset (says .other)) byte-followed allowed (n .0) end (says .more) (typed .decimal) (typed .near)
-        (typed .rounded) (typed .range)
+        (typed .rounded) (ap (fieldOf (p .resolution .decimals)) (typed .printed)) (typed .range)
     performed-reacted l (verdicts.Change n) says = change-reacted p allowed t (byteIs m) (no-reset says) s byte-followed range (n .0)
     performed-reacted l (Show n) says = answered-quietly p t (byteIs m) (s .weighing) (no-reset says) byte-followed _ (shown-silent p)
 

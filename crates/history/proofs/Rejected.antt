@@ -12,11 +12,13 @@ use Rattle.text.specs.UnitTexts.{firstNamed, unitNamed}
 use Rattle.weight.specs.Places.{lastDigits, digitsIn, digitsOf, decimalOf, numberText, widthOf, fitsField}
 use Rattle.weight.specs.Rounding.{halfUp, placeFemtograms, stepFemtograms, exactFemtograms}
 use Rattle.weight.specs.Amounts.{typedFemtograms, typedMicrograms, amountOf}
+use Rattle.weight.specs.Presets.{presetSteps, presetPlaces, presetFemtograms}
 use Rattle.history.specs.Claim.{takenEvents}
 use Rattle.history.specs.EndToEnd.{piecesAfter, piecesOf, piecesHold, hostAccepts}
 use Rattle.history.specs.OnChange.{sendsAfterLine, sendsAfter, sendsHold, senderHolds}
 use Rattle.history.specs.Rejected.{weightRows, stateRows, waitRows, sentRows, sendingRows, bufferRows, rows, allTell}
 use Rattle.history.specs.Tally.{afterReset, granted, weightHolds, loadHolds, typedHolds, tallied, holds, afterEvent, eventHolds, accepts}
+use Rattle.history.specs.TypedTares.{showsTyped, eventShows, shownAsTyped}
 use Rattle.history.specs.Waits.{waitsHold}
 
 pub all-rejected : allTell rows ≡ true
@@ -49,6 +51,9 @@ unfolding
     piecesOf
     piecesHold
     hostAccepts
+    showsTyped
+    eventShows
+    shownAsTyped
     placeIn
     placeOf
     headText
@@ -76,6 +81,9 @@ unfolding
     placeFemtograms
     stepFemtograms
     exactFemtograms
+    presetSteps
+    presetPlaces
+    presetFemtograms
     typedFemtograms
     typedMicrograms
     amountOf

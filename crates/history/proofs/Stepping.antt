@@ -31,6 +31,7 @@ use Rattle.model.proofs.StateFacts.{start-allowed}
 use Rattle.weight.proofs.Nearness.{near-refl}
 use Rattle.history.specs.Claim.{byteEvent, sampleEvent}
 use Rattle.history.specs.Tally.{Event, Input, byteIs, sampleIs, Tally, startTally, taken, afterEvent, eventHolds}
+use Rattle.history.specs.TypedTares.{eventShows}
 use Rattle.history.proofs.Answering.{zero-exact, zero-rounded}
 use Rattle.history.proofs.DueWeights.{tare-range}
 use Rattle.history.proofs.Following.{Follows}
@@ -59,6 +60,7 @@ start-followed p =
 -- the tally accepts a call, and follows the state that it returned
 pub record Stepped (p : Profile) (t : Tally) (e : Event) (s : State) : Type 0 where
   pub accepted : eventHolds p t e ≡ true
+  pub shown : eventShows p t e ≡ true
   pub follows : FollowsState p s (afterEvent p t e)
 
 -- delivered, the reaction steps; refused for room, the call changes nothing
@@ -69,10 +71,11 @@ delivered-stepped
     → stateAllowed p (x .state) ≡ true
     → Reacted p t i x × Keeps (x .state .line) (taken t i .line)
     → Stepped p t (record { input = i; refusal = numberOfRefusal (r .refusal); answer = take (r .count) buffer }) (r .state)
-unfolding eventHolds afterEvent
+unfolding eventHolds eventShows afterEvent
 delivered-stepped p s t i x kept (given none state answer) allowed reacted =
     record {
       accepted = rw (none, answer) (reacted .0 .accepted);
+      shown = rw (none, answer) (reacted .0 .shown);
       follows =
           rw (none, state, answer)
           (record {
@@ -82,7 +85,7 @@ delivered-stepped p s t i x kept (given none state answer) allowed reacted =
           });
     }
 delivered-stepped p s t i x kept (withheld room state answer) allowed reacted =
-    record { accepted = rw room; follows = rw (room, state) kept }
+    record { accepted = rw room; shown = rw room; follows = rw (room, state) kept }
 
 -- ---- a byte
 

@@ -1,56 +1,56 @@
--- The number that TA types: the micrograms that the device stores are within half a microgram of what the line says.
+-- The number that TA types: the micrograms that the device stores are within half a microgram of the decimal that the line says, and
+-- are printed as it.
 -- Assumes nothing.
 use Prim.Native.Nat.{ℕ, _≤_}
 use native.Mathlib.Omega.{arith}
 use mathlib.Core.Path.{_≡_, refl, ap, _∙_}
-use mathlib.Core.Bool.{Bool, true, false, cond}
+use mathlib.Core.Bool.{Bool, true, false, cond, _&&_}
 use mathlib.Core.List.{List}
 use lib.Dec.{leb}
 use lib.IntN.{pos}
-use lib.ListN.{length}
-use Rattle.weight.specs.declared.units.WeightUnit.{WeightUnit}
+use Rattle.weight.specs.declared.rounding.Resolution.{Resolution}
 use Rattle.weight.specs.declared.amount.Tare.{Tare}
 use Rattle.weight.specs.declared.amount.Typed.the-variants.{Amount, TooLarge, NotTyped}
 use Rattle.text.specs.Reading.{isDecimal, decimalsIn, valueIn}
-use Rattle.weight.specs.Rounding.{exactFemtograms, halfUp, Near}
-use Rattle.weight.specs.Amounts.{typedMicrograms, typedFemtograms, largestCapacity, amountOf}
-use Rattle.text.specs.Typed.{isTyped, readTyped}
-use Rattle.weight.proofs.Allowed.{both-right}
-use Rattle.text.proofs.DecimalText.{decimals-limit}
-use Rattle.weight.proofs.HalfStep.{typed-near, typed-rounded}
+use Rattle.weight.specs.Rounding.{allowedResolution, exactFemtograms, halfUp, placesOf, Near}
+use Rattle.weight.specs.Amounts.{largestCapacity, amountOf}
+use Rattle.weight.specs.Presets.{presetMicrograms, presetPlaces, presetFemtograms}
+use Rattle.text.specs.Typed.{isTyped, readPreset}
+use Rattle.text.proofs.TypedText.{typed-decimal}
+use Rattle.weight.proofs.Allowed.{both-left, both-right}
+use Rattle.weight.proofs.Presets.{preset-near, preset-rounded, preset-printed}
 
--- a typed number that C allows: it is a decimal, it is stored as a number up to C, and that is near what was typed and the nearest
-pub record TypedAs (capacity : ℕ) (u : WeightUnit) (t : List ℕ) (m : ℕ) : Type 0 where
+-- a typed number that C allows: it is a decimal, and it is stored as a number up to C that is near the decimal it is rounded to, the
+-- nearest, and printed as that decimal
+pub record TypedAs (capacity : ℕ) (r : Resolution) (t : List ℕ) (m : ℕ) : Type 0 where
   pub decimal : isDecimal t ≡ true
   pub range : m ≤ capacity
-  pub near : Near 1_000_000_000 (exactFemtograms (pos m)) (pos (typedFemtograms u (decimalsIn t) (valueIn t)))
-  pub rounded : m ≡ halfUp (typedFemtograms u (decimalsIn t) (valueIn t)) 1_000_000_000
+  pub near : Near 1_000_000_000 (exactFemtograms (pos m)) (pos (presetFemtograms r (decimalsIn t) (valueIn t)))
+  pub rounded : m ≡ halfUp (presetFemtograms r (decimalsIn t) (valueIn t)) 1_000_000_000
+  pub printed : placesOf r (pos m) ≡ pos (presetPlaces r (decimalsIn t) (valueIn t))
 
-typed-decimal : (t : List ℕ) → isTyped t ≡ true → isDecimal t ≡ true
-unfolding isTyped
-typed-decimal t e = both-right (leb (length t) 10) (isDecimal t) e
-
-module _ (capacity : ℕ) (u : WeightUnit) (t : List ℕ) (m : Tare) where
+module _ (capacity : ℕ) (r : Resolution) (t : List ℕ) (m : Tare) where
   -- by the tests of the reader
   typed-by
       : (b q : Bool) (n : ℕ)
-      → isTyped t ≡ b
+      → (allowedResolution r && isTyped t) ≡ b
       → cond b (cond q (Amount (record { 0 = n })) TooLarge) NotTyped ≡ Amount m
-      → (isTyped t ≡ true) × (m .0 ≡ n)
+      → ((allowedResolution r && isTyped t) ≡ true) × (m .0 ≡ n)
   typed-by true true n h e = let same : m ≡ record { 0 = n } = cc in (h, ap (λ (x : Tare). x .0) same)
   typed-by true false n h e = let z : _≡_ {A = ℕ} 0 1 = cc in absurd (omega arith)
   typed-by false q n h e = let z : _≡_ {A = ℕ} 0 1 = cc in absurd (omega arith)
 
   -- a number that TA takes is such a one
-  pub typed-as : readTyped u t ≡ Amount m → m .0 ≤ capacity → TypedAs capacity u t (m .0)
-  unfolding readTyped amountOf
+  pub typed-as : readPreset r t ≡ Amount m → m .0 ≤ capacity → TypedAs capacity r t (m .0)
+  unfolding readPreset amountOf
   typed-as e h =
-      let n = typedMicrograms u (decimalsIn t) (valueIn t) in
-      let read = typed-by (isTyped t) (leb n largestCapacity) n refl e in
-      let d = typed-decimal t (read .0) in
+      let n = presetMicrograms r (decimalsIn t) (valueIn t) in
+      let read = typed-by (allowedResolution r && isTyped t) (leb n largestCapacity) n refl e in
+      let allowed = both-left (allowedResolution r) (isTyped t) (read .0) in
       record {
-        decimal = d;
+        decimal = typed-decimal t (both-right (allowedResolution r) (isTyped t) (read .0));
         range = h;
-        near = rw (read .1) (typed-near u (decimalsIn t) (valueIn t) (decimals-limit t d));
-        rounded = read .1 ∙ typed-rounded u (decimalsIn t) (valueIn t) (decimals-limit t d);
+        near = rw (read .1) (preset-near r (decimalsIn t) (valueIn t) allowed);
+        rounded = read .1 ∙ preset-rounded r (decimalsIn t) (valueIn t) allowed;
+        printed = ap (λ (x : ℕ). placesOf r (pos x)) (read .1) ∙ preset-printed r (decimalsIn t) (valueIn t) allowed;
       }

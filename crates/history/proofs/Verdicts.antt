@@ -80,7 +80,7 @@ pub record RunSays (j : Situation) (f : List Marked) (c : ℕ) : Type 0 where
 pub record PresetSays (j : Situation) (f : List Marked) (m : Tare) : Type 0 where
   pub other : isResetLine f ≡ false
   pub more : sameText (map byteIn f) (ascii "TA") ≡ false
-  pub typed : TypedAs (j .capacity) (j .resolution .unit) (typedText (map byteIn f)) (m .0)
+  pub typed : TypedAs (j .capacity) (j .resolution) (typedText (map byteIn f)) (m .0)
 
 abbrev pub Says : Situation → List Marked → Verdict → Type 0
 Says j f (Erroneous e) = isResetLine f ≡ false
@@ -110,7 +110,7 @@ module _ (j : Situation) (f : List Marked) where
       record {
         other = by-verdict h;
         more = rw (line .line .bytes);
-        typed = typed-as (j .capacity) (j .resolution .unit) (typedText (map byteIn f)) m (line .number) (line .within);
+        typed = typed-as (j .capacity) (j .resolution) (typedText (map byteIn f)) m (line .number) (line .within);
       }
   verdict-says (Change t) h = by-verdict h
   verdict-says (Show n) h = by-verdict h

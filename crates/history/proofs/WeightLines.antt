@@ -81,23 +81,24 @@ module _ (p : Profile) (w : ℤ) (fits : printable (p .resolution) w ≡ true) w
 -- a whole weight answer, whose number is that of w micrograms
 pub record Shows (p : Profile) (w : ℤ) (l : List ℕ) : Type 0 where
   pub whole : isWhole p l ≡ true
+  pub ten : tenOf l ≡ fieldOf (p .resolution .decimals) (placesOf (p .resolution) w)
   pub number : readField (tenOf l) ≡ ReadNumber (p .resolution .decimals) (record { 0 = placesOf (p .resolution) w })
 
 module _ (p : Profile) (w : ℤ) (fits : printable (p .resolution) w ≡ true) where
   pub weighed-shows : (stable : Bool) → Shows p w (answerBytes p (Weight (headOf placeS (cond stable S D)) (numberOf p w)))
   unfolding answerBytes lineOf headText
-  weighed-shows true = record { whole = rest-whole p w fits; number = number-back p w fits }
-  weighed-shows false = record { whole = rest-whole p w fits; number = number-back p w fits }
+  weighed-shows true = record { whole = rest-whole p w fits; ten = ten-printed p w fits; number = number-back p w fits }
+  weighed-shows false = record { whole = rest-whole p w fits; ten = ten-printed p w fits; number = number-back p w fits }
 
   pub tared-shows : Shows p w (answerBytes p (Weight (headOf placeT S) (numberOf p w)))
   unfolding answerBytes lineOf headText
-  tared-shows = record { whole = rest-whole p w fits; number = number-back p w fits }
+  tared-shows = record { whole = rest-whole p w fits; ten = ten-printed p w fits; number = number-back p w fits }
 
   pub tared-now-shows : (stable : Bool) → Shows p w (answerBytes p (Weight (headOf placeTI (cond stable S D)) (numberOf p w)))
   unfolding answerBytes lineOf headText
-  tared-now-shows true = record { whole = rest-whole p w fits; number = number-back p w fits }
-  tared-now-shows false = record { whole = rest-whole p w fits; number = number-back p w fits }
+  tared-now-shows true = record { whole = rest-whole p w fits; ten = ten-printed p w fits; number = number-back p w fits }
+  tared-now-shows false = record { whole = rest-whole p w fits; ten = ten-printed p w fits; number = number-back p w fits }
 
   pub told-shows : Shows p w (answerBytes p (Weight (headOf placeTA A) (numberOf p w)))
   unfolding answerBytes lineOf headText
-  told-shows = record { whole = rest-whole p w fits; number = number-back p w fits }
+  told-shows = record { whole = rest-whole p w fits; ten = ten-printed p w fits; number = number-back p w fits }

@@ -3,4 +3,5 @@ pub mod EndToEnd
 pub mod OnChange
 pub mod Rejected
 pub mod Tally
+pub mod TypedTares
 pub mod Waits

@@ -10,11 +10,12 @@ use Rattle.model.specs.declared.profile.Profile.{Profile}
 use Rattle.profiles.specs.ProfileA.{profileWith}
 use Rattle.text.specs.Ascii.{ascii}
 use Rattle.weight.specs.declared.rounding.Resolution.{Resolution}
-use Rattle.weight.specs.declared.units.WeightUnit.the-variants.{G, Oz, Gn}
+use Rattle.weight.specs.declared.units.WeightUnit.the-variants.{G, Mg, Oz, Gn}
 use Rattle.history.specs.Claim.{takenEvents}
 use Rattle.history.specs.EndToEnd.{hostAccepts}
 use Rattle.history.specs.OnChange.{startSender, senderHolds}
 use Rattle.history.specs.Tally.{Event, Input, byteIs, sampleIs, startTally, accepts}
+use Rattle.history.specs.TypedTares.{shownAsTyped}
 use Rattle.history.specs.Waits.{startWaits, waitsHold}
 
 -- ---- calls, as the followers are fed them
@@ -56,6 +57,7 @@ pub data Follower : Type 0 where
   waits : Follower
   host : Follower
   sender : Follower
+  typedTares : Follower
 
 pub record Row : Type 0 where
   pub follower : Follower
@@ -68,8 +70,9 @@ accepted tally p es = accepts p startTally es
 accepted waits p es = waitsHold p startWaits es
 accepted host p es = hostAccepts p startTally es
 accepted sender p es = senderHolds p startSender es
+accepted typedTares p es = shownAsTyped p startTally es
 
--- profile A, in grams with four decimals, in ounces with five and in grains with four
+-- profile A, in grams with four decimals, in ounces with five, in grains with four and in milligrams with three
 abbrev pub inGrams : Follower → List Event → List Event → Row
 inGrams f wrong right = record { follower = f; resolution = record { unit = G; decimals = 4; step = 1 }; wrong = wrong; right = right }
 
@@ -79,16 +82,27 @@ inOunces f wrong right = record { follower = f; resolution = record { unit = Oz;
 abbrev pub inGrains : Follower → List Event → List Event → Row
 inGrains f wrong right = record { follower = f; resolution = record { unit = Gn; decimals = 4; step = 1 }; wrong = wrong; right = right }
 
+abbrev pub inMilligrams : Follower → List Event → List Event → Row
+inMilligrams f wrong right = record { follower = f; resolution = record { unit = Mg; decimals = 3; step = 1 }; wrong = wrong; right = right }
+
 unfoldable pub weightRows : List Row
 weightRows =
     -- one microgram over half a step, and half a step
     inGrams tally
     (taken (stable (pos 51)) "" ++ line "SI" "S S     0.0000 g\r\n")
     (taken (stable (pos 50)) "" ++ line "SI" "S S     0.0000 g\r\n")
-    -- ten femtograms over half a step and half a microgram, the least that any unit can be over; and not over
+    -- 500 femtograms over half a step and half a microgram, after a tie in the typed number; and 500 under
     ∷ inGrains tally
-    (line "TA 2.226739 GN" "TA A     2.2267 GN\r\n" ++ taken (stable (pos 144_294)) "" ++ line "SI" "S S     0.0000 GN\r\n")
-    (line "TA 49.999950 GN" "TA A    50.0000 GN\r\n" ++ taken (stable (pos 3_239_946)) "" ++ line "SI" "S S     0.0000 GN\r\n")
+    (line "TA 38.66055 GN" "TA A    38.6606 GN\r\n" ++ taken (stable (pos 2_505_161)) "" ++ line "SI" "S S     0.0000 GN\r\n")
+    (line "TA 38.66054 GN" "TA A    38.6605 GN\r\n" ++ taken (stable (pos 2_505_162)) "" ++ line "SI" "S S     0.0000 GN\r\n")
+    -- a typed tare is the rounded decimal, here 0: what would hold of the number as it was typed, and what would not
+    ∷ inGrams tally
+    (line "TA 0.000049 g" "TA A     0.0000 g\r\n" ++ taken (stable (pos 10_000_099)) "" ++ line "SI" "S S    10.0000 g\r\n")
+    (line "TA 0.000049 g" "TA A     0.0000 g\r\n" ++ taken (stable (pos 9_999_951)) "" ++ line "SI" "S S    10.0000 g\r\n")
+    -- its answer has the characters of that decimal, also where the allowance would have room for others
+    ∷ inMilligrams typedTares
+    (line "TA 0.0005 mg" "TA A      0.002 mg\r\n")
+    (line "TA 0.0005 mg" "TA A      0.001 mg\r\n")
     -- the half microgram is for a typed tare alone
     ∷ inOunces tally
     (taken (stable (pos 142)) "" ++ line "SI" "S S    0.00000 oz\r\n")

@@ -1,4 +1,4 @@
--- Document 01, "The tally of demand 3". It reads calls and answers alone, never the module's state.
+-- Document 01, "The tally of demand 3", and document 02, No. 3. It reads calls and answers alone, never the module's state.
 -- Assumes nothing.
 use Prim.Native.Nat.{ℕ, zero, _+_, _-_, _*_, _^_}
 use mathlib.Core.Bool.{Bool, true, false, cond, not, _&&_, _||_}
@@ -14,7 +14,7 @@ use Rattle.weight.specs.Units.{nanogramsOf}
 use Rattle.text.specs.UnitTexts.{unitText}
 use Rattle.weight.specs.Rounding.{stepFemtograms, exactFemtograms}
 use Rattle.text.specs.Reading.{readField, isDecimal, decimalsIn, valueIn}
-use Rattle.weight.specs.Amounts.{typedFemtograms}
+use Rattle.weight.specs.Presets.{presetFemtograms}
 use Rattle.text.specs.declared.reading.FieldRead.{FieldRead}
 use Rattle.text.specs.declared.reading.FieldRead.the-variants.{Number, NoNumber}
 
@@ -36,8 +36,8 @@ pub data Latest : Type 0 where
   none : Latest
   load : ℤ → Latest
 
--- the line so far (the newest byte first), the latest load, zero in micrograms, tare in femtograms (so that a typed one is
--- unrounded) and whether the tare is typed
+-- the line so far (the newest byte first), the latest load, zero in micrograms, tare in femtograms (so that a typed one is not
+-- rounded to the microgram) and whether the tare is typed
 pub record Tally : Type 0 where
   pub line : List Marked
   pub latest : Latest
@@ -134,12 +134,13 @@ latestOf t = elim (t .latest) [ none ↦ pos 0 | load z ↦ z ]
 abbrev pub isLoaded : Tally → Bool
 isLoaded t = elim (t .latest) [ none ↦ false | load z ↦ true ]
 
--- the number in the line TA number unit, in femtograms, unrounded
+-- the number in the line TA number unit
 abbrev pub typedText : List ℕ → List ℕ
 typedText l = beforeSpace (afterSpace l)
 
+-- the decimal that it is rounded to, exact in femtograms (No. 3)
 abbrev pub typedTare : Profile → List ℕ → ℤ
-typedTare p l = pos (typedFemtograms (p .resolution .unit) (decimalsIn (typedText l)) (valueIn (typedText l)))
+typedTare p l = pos (presetFemtograms (p .resolution) (decimalsIn (typedText l)) (valueIn (typedText l)))
 
 -- TA A to a line other than TA
 abbrev pub grantsTyped : Tally → Input → List ℕ → Bool

@@ -2,6 +2,7 @@ pub mod InCells
 mod Joining
 pub mod Kept
 mod Parameters
+pub mod PresetLines
 pub mod Proper
 mod Rows
 pub mod Running

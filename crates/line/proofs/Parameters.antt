@@ -14,18 +14,19 @@ use Rattle.line.specs.declared.judge.Situation.{Situation}
 use Rattle.line.specs.declared.judge.Verdict.{Verdict}
 use Rattle.line.specs.declared.judge.Verdict.the-variants.{Wrong, Preset, Change, Show}
 use Rattle.text.specs.Printable.{isPrintable}
-use Rattle.line.specs.Judging.{isShown, betweenQuotes, isQuoted, typedIn, thresholdOf, thresholdIn}
+use Rattle.line.specs.Judging.{isShown, betweenQuotes, isQuoted, numberIn, presetIn, typedIn, thresholdOf, thresholdIn}
 use Rattle.line.specs.Parts.{showRule, amountRule, presetRule, thresholdRule, changeRule}
 use Rattle.weight.specs.declared.amount.Tare.{Tare}
 use Rattle.weight.specs.declared.amount.Typed.{Typed}
 use Rattle.weight.specs.declared.amount.Typed.the-variants.{Amount, TooLarge, NotTyped}
 use Rattle.weight.specs.declared.changes.Threshold.{Threshold}
+use Rattle.weight.specs.declared.units.WeightUnit.{WeightUnit}
 use Rattle.weight.specs.Characters.{space}
 use Rattle.text.specs.Ascii.{sameText}
 use Rattle.text.specs.Searching.{FirstAt, afterSpace, hasSpace}
 use Rattle.text.proofs.Searching.{rest-is}
 use Rattle.text.specs.UnitTexts.{unitText}
-use Rattle.text.specs.Typed.{readTyped}
+use Rattle.text.specs.Typed.{readPreset, readTyped}
 
 -- ---- D
 
@@ -124,33 +125,33 @@ module _ (capacity : ℕ) (n : Typed) where
 
 -- ---- number, space, unit
 
-module _ (j : Situation) (p : List ℕ) (i : ℕ) (at : FirstAt space p i) where
+module _ (u : WeightUnit) (p : List ℕ) (i : ℕ) (at : FirstAt space p i) where
   pub number-cells : i ≡ length (take i p)
   number-cells = sym (length-take-le i p (at .in-text))
 
-  pub no-space : length p ≤ i → NotTyped ≡ typedIn j p
-  unfolding typedIn
+  pub no-space : length p ≤ i → take 0 p ≡ numberIn u p
+  unfolding numberIn
   no-space h = rw (sym (at .has) ∙ le-ltb i (length p) h)
 
   -- what stands after the space is compared with the unit
-  module _ {same : Bool} (known : same ≡ sameText (take (length p - (i + 1)) (drop (i + 1) p)) (unitText (j .resolution .unit))) where
-    unit-of : sameText (afterSpace p) (unitText (j .resolution .unit)) ≡ same
-    unit-of = sym (known ∙ ap (λ (t : List ℕ). sameText t (unitText (j .resolution .unit))) (rest-is (i + 1) p ∙ at .after))
+  module _ {same : Bool} (known : same ≡ sameText (take (length p - (i + 1)) (drop (i + 1) p)) (unitText u)) where
+    unit-of : sameText (afterSpace p) (unitText u) ≡ same
+    unit-of = sym (known ∙ ap (λ (t : List ℕ). sameText t (unitText u)) (rest-is (i + 1) p ∙ at .after))
 
-    pub other-unit : same ≡ false → NotTyped ≡ typedIn j p
-    unfolding typedIn
+    pub other-unit : same ≡ false → take 0 p ≡ numberIn u p
+    unfolding numberIn
     other-unit e = rw (unit-of ∙ e, and-false (hasSpace p))
 
-    pub own-unit : {n : Typed} → i < length p → same ≡ true → n ≡ readTyped (j .resolution .unit) (take i p) → n ≡ typedIn j p
-    unfolding typedIn
-    own-unit h e f = f ∙ ap (readTyped (j .resolution .unit)) (at .before) ∙ rw (unit-of ∙ e, sym (at .has) ∙ lt-ltb i (length p) h)
+    pub own-unit : i < length p → same ≡ true → take i p ≡ numberIn u p
+    unfolding numberIn
+    own-unit h e = at .before ∙ rw (unit-of ∙ e, sym (at .has) ∙ lt-ltb i (length p) h)
 
 -- what is read is judged
-module _ (j : Situation) (p : List ℕ) {n : Typed} {r : Verdict} (read : n ≡ typedIn j p) where
-  pub preset-read : r ≡ amountRule (j .capacity) n → r ≡ presetRule j p
-  unfolding presetRule
-  preset-read e = e ∙ ap (amountRule (j .capacity)) read
+module _ (j : Situation) (p : List ℕ) {t : List ℕ} {n : Typed} {r : Verdict} (number : t ≡ numberIn (j .resolution .unit) p) where
+  pub preset-read : n ≡ readPreset (j .resolution) t → r ≡ amountRule (j .capacity) n → r ≡ presetRule j p
+  unfolding presetRule presetIn
+  preset-read read e = e ∙ ap (amountRule (j .capacity)) (read ∙ ap (readPreset (j .resolution)) number)
 
-  pub change-read : r ≡ thresholdRule (j .capacity) n → r ≡ changeRule j p
-  unfolding changeRule
-  change-read e = e ∙ ap (thresholdRule (j .capacity)) read
+  pub change-read : n ≡ readTyped (j .resolution .unit) t → r ≡ thresholdRule (j .capacity) n → r ≡ changeRule j p
+  unfolding changeRule typedIn
+  change-read read e = e ∙ ap (thresholdRule (j .capacity)) (read ∙ ap (readTyped (j .resolution .unit)) number)

@@ -16,7 +16,7 @@ use Rattle.line.specs.declared.judge.Situation.{Situation}
 use Rattle.line.specs.declared.judge.Verdict.{Verdict}
 use Rattle.line.specs.declared.judge.Verdict.the-variants.{Erroneous, Reset, Busy, Wrong, NoSample, Run, Preset, Change, Show}
 use Rattle.line.specs.Receiving.{contentOf, lineLimit}
-use Rattle.line.specs.Judging.{hasControl, commandIn, isQuoted, typedIn, amountIn, thresholdIn, isPreset, isThreshold, isWrong, ownRule, judgement}
+use Rattle.line.specs.Judging.{hasControl, commandIn, isQuoted, presetIn, typedIn, amountIn, thresholdIn, isPreset, isThreshold, isWrong, ownRule, judgement}
 use Rattle.line.specs.Parts.{showRule, amountRule, presetRule, thresholdRule, changeRule, lastRows, textRows}
 use Rattle.weight.specs.Characters.{space}
 use Rattle.text.specs.Searching.{FirstAt, afterSpace, hasSpace}
@@ -55,7 +55,7 @@ module _ (j : Situation) (c : ℕ) (t : List ℕ) (i : ℕ) (at : FirstAt space 
   pub preset-parameter : {r : Verdict} → c ≡ placeTA → i < length t → r ≡ presetRule j (take (length t - (i + 1)) (drop (i + 1) t))
       → r ≡ lastRows j c t
   unfolding presetRule amountRule lastRows isWrong ownRule
-  preset-parameter e h f = f ∙ ap (presetRule j) after ∙ rw (e, has h) (rw (or-false (not (isPreset j (afterSpace t)))) (opposite (isPreset j (afterSpace t)) (Preset (amountIn (typedIn j (afterSpace t)))) (Wrong placeTA)))
+  preset-parameter e h f = f ∙ ap (presetRule j) after ∙ rw (e, has h) (rw (or-false (not (isPreset j (afterSpace t)))) (opposite (isPreset j (afterSpace t)) (Preset (amountIn (presetIn j (afterSpace t)))) (Wrong placeTA)))
 
   pub preset-asked : c ≡ placeTA → length t ≤ i → Run placeTA ≡ lastRows j c t
   unfolding lastRows isWrong ownRule

@@ -18,19 +18,22 @@ use Rattle.line.specs.declared.judge.Verdict.{Verdict}
 use Rattle.line.specs.declared.judge.Verdict.the-variants.{Erroneous, Reset, Busy, Wrong, NoSample, Run, Preset, Change, Show}
 use Rattle.text.specs.Searching.{beforeSpace, afterSpace, hasSpace}
 use Rattle.text.specs.Printable.{isPrintable}
-use Rattle.line.specs.Judging.{hasControl, commandIn, isShown, betweenQuotes, isQuoted, typedIn, presetOf, amountIn, thresholdOf, thresholdIn, isPreset, isThreshold, isWrong, ownRule, firstRow, judgement}
+use Rattle.line.specs.Judging.{hasControl, commandIn, isShown, betweenQuotes, isQuoted, numberIn, presetIn, typedIn, presetOf, amountIn, thresholdOf, thresholdIn, isPreset, isThreshold, isWrong, ownRule, firstRow, judgement}
 use Rattle.line.specs.Receiving.{contentOf, lineLimit}
 use Rattle.line.specs.Unbounded.{Marked, byteIn, anyFaulty, judgementOf}
 use Rattle.line.proofs.Kept.{Holds}
 use Rattle.line.proofs.Parameters.{Between, shown-between}
 use Rattle.weight.specs.declared.amount.Tare.{Tare}
+use Rattle.weight.specs.declared.units.WeightUnit.{WeightUnit}
 use Rattle.weight.specs.declared.amount.Typed.{Typed}
 use Rattle.weight.specs.declared.amount.Typed.the-variants.{Amount, TooLarge, NotTyped}
 use Rattle.weight.specs.declared.changes.Threshold.{Threshold}
 use Rattle.weight.specs.Characters.{space}
 use Rattle.text.specs.Ascii.{ascii, sameText}
 use Rattle.text.specs.UnitTexts.{unitText}
-use Rattle.text.specs.Typed.{readTyped}
+use Rattle.text.specs.Reading.{isDecimal}
+use Rattle.text.specs.Typed.{isTyped, readPreset, readTyped}
+use Rattle.text.proofs.TypedText.{amount-is-typed, preset-is-typed}
 use Rattle.weight.proofs.Allowed.{both-right, neither-left, neither-right}
 use Rattle.text.proofs.Named.{same-is}
 use Rattle.text.proofs.Searching.{first-between, none-between}
@@ -65,7 +68,7 @@ own-by false false false n m t c = refl
 own-is : (j : Situation) (c : ℕ) (t : List ℕ) → isOwn (ownRule j c t) ≡ true
 unfolding ownRule
 own-is j c t =
-    own-by (isD c) (isTA c && hasSpace t) (isSR c && hasSpace t) (length (afterSpace t) - 2) (amountIn (typedIn j (afterSpace t)))
+    own-by (isD c) (isTA c && hasSpace t) (isSR c && hasSpace t) (length (afterSpace t) - 2) (amountIn (presetIn j (afterSpace t)))
     (thresholdIn (typedIn j (afterSpace t))) c
 
 -- rows 1 to 3 do not apply
@@ -223,7 +226,7 @@ pub record PresetLine (j : Situation) (f : List Marked) (m : Tare) : Type 0 wher
   pub line : GoodLine f (ascii "TA " ++ parameterIn f)
   pub parts : parameterIn f ≡ beforeSpace (parameterIn f) ++ (space ∷ unitText (j .resolution .unit))
   pub unit : afterSpace (parameterIn f) ≡ unitText (j .resolution .unit)
-  pub number : readTyped (j .resolution .unit) (beforeSpace (parameterIn f)) ≡ Amount m
+  pub number : readPreset (j .resolution) (beforeSpace (parameterIn f)) ≡ Amount m
   pub within : m .0 ≤ j .capacity
   pub free : j .waiting ≡ false
 
@@ -329,7 +332,7 @@ record Showing (c : ℕ) (t : List ℕ) (n : ℕ) : Type 0 where
 showing : (j : Situation) (c n : ℕ) (t : List ℕ) → isWrong j c t ≡ false → ownRule j c t ≡ Show n → Showing c t n
 unfolding ownRule isWrong
 showing j c n t right own =
-    let by = show-by (isD c) (isTA c && hasSpace t) (isSR c && hasSpace t) (length (afterSpace t) - 2) (amountIn (typedIn j (afterSpace t)))
+    let by = show-by (isD c) (isTA c && hasSpace t) (isSR c && hasSpace t) (length (afterSpace t) - 2) (amountIn (presetIn j (afterSpace t)))
     (thresholdIn (typedIn j (afterSpace t))) c n own in
     let is : c ≡ placeD = eqb-true c placeD (by .0) in
     let fine : (hasSpace t && isQuoted (afterSpace t)) ≡ true =
@@ -354,26 +357,22 @@ threshold-by capacity TooLarge e = never (cc)
 threshold-by capacity NotTyped e = never (cc)
 
 -- a parameter with a number: number, space, the profile's unit
-record Numbered (j : Situation) (p : List ℕ) (m : Tare) : Type 0 where
-  parts : p ≡ beforeSpace p ++ (space ∷ unitText (j .resolution .unit))
-  unit : afterSpace p ≡ unitText (j .resolution .unit)
-  number : readTyped (j .resolution .unit) (beforeSpace p) ≡ Amount m
+record Numbered (u : WeightUnit) (p : List ℕ) : Type 0 where
+  parts : p ≡ beforeSpace p ++ (space ∷ unitText u)
+  unit : afterSpace p ≡ unitText u
+  number : numberIn u p ≡ beforeSpace p
 
-read-by : (right : Bool) (n : Typed) (m : Tare) → cond right n NotTyped ≡ Amount m → (right ≡ true) × (n ≡ Amount m)
-read-by true n m e = (refl, e)
-read-by false n m e = never (cc)
-
-numbered : (j : Situation) (p : List ℕ) (m : Tare) → typedIn j p ≡ Amount m → Numbered j p m
-unfolding typedIn
-numbered j p m e =
-    let by = read-by (hasSpace p && sameText (afterSpace p) (unitText (j .resolution .unit))) (readTyped (j .resolution .unit) (beforeSpace p)) m e in
-    let both = and-eq-true-iff (hasSpace p) (sameText (afterSpace p) (unitText (j .resolution .unit))) .0 (by .0) in
-    let unit : afterSpace p ≡ unitText (j .resolution .unit) = same-is (afterSpace p) (unitText (j .resolution .unit)) (both .1) in
-    record {
-      parts = first-between space p (both .0) ∙ ap (λ (x : List ℕ). beforeSpace p ++ (space ∷ x)) unit;
-      unit = unit;
-      number = by .1;
-    }
+-- no byte is no number
+numbered : (u : WeightUnit) (p : List ℕ) → isTyped (numberIn u p) ≡ true → Numbered u p
+unfolding numberIn isTyped isDecimal
+numbered u p = by (hasSpace p && sameText (afterSpace p) (unitText u)) refl
+  where
+    by : (b : Bool) → (hasSpace p && sameText (afterSpace p) (unitText u)) ≡ b → isTyped (cond b (beforeSpace p) []) ≡ true → Numbered u p
+    by true h e =
+        let both = and-eq-true-iff (hasSpace p) (sameText (afterSpace p) (unitText u)) .0 h in
+        let unit : afterSpace p ≡ unitText u = same-is (afterSpace p) (unitText u) (both .1) in
+        record { parts = first-between space p (both .0) ∙ ap (λ (x : List ℕ). beforeSpace p ++ (space ∷ x)) unit; unit = unit; number = rw h }
+    by false h e = never (cc)
 
 module _ (j : Situation) (f : List Marked) where
   abbrev c : ℕ
@@ -420,7 +419,7 @@ module _ (j : Situation) (f : List Marked) where
       let row = last refl e in
       let b : Begins f = begins f (row .known) in
       let by = run-by (isD c) (isTA c && hasSpace (map byteIn f)) (isSR c && hasSpace (map byteIn f)) (length (parameterIn f) - 2)
-      (amountIn (typedIn j (parameterIn f))) (thresholdIn (typedIn j (parameterIn f))) c k (row .own-rule) in
+      (amountIn (presetIn j (parameterIn f))) (thresholdIn (typedIn j (parameterIn f))) c k (row .own-rule) in
       let single : hasSpace (map byteIn f) ≡ false =
       nothing-after (hasSpace (map byteIn f)) (isD c) (isSR c) (isTA c) (by .0) (by .1) (by .2) (rw (← (parameters-are c)) at (b .alone)) in
       record {
@@ -435,23 +434,24 @@ module _ (j : Situation) (f : List Marked) where
   -- ---- TA with a number
 
   pub preset-line : {m : Tare} → judgementOf j f ≡ Preset m → PresetLine j f m
-  unfolding ownRule isWrong
+  unfolding ownRule isWrong presetIn
   preset-line {m} e =
       let row = last refl e in
       let b : Begins f = begins f (row .known) in
       let by = preset-by (isD c) (isTA c && hasSpace (map byteIn f)) (isSR c && hasSpace (map byteIn f)) (length (parameterIn f) - 2)
-      (amountIn (typedIn j (parameterIn f))) (thresholdIn (typedIn j (parameterIn f))) c m (row .own-rule) in
+      (amountIn (presetIn j (parameterIn f))) (thresholdIn (typedIn j (parameterIn f))) c m (row .own-rule) in
       let both = and-eq-true-iff (isTA c) (hasSpace (map byteIn f)) .0 (by .0) in
       let is : c ≡ placeTA = eqb-true c placeTA (both .0) in
       let right : isPreset j (parameterIn f) ≡ true =
       not-false (isPreset j (parameterIn f)) (neither-left (not (isPreset j (parameterIn f))) false (rw (is, both .1) at (row .right))) in
-      let amount = amount-by (j .capacity) (typedIn j (parameterIn f)) right in
-      let n : Numbered j (parameterIn f) m = numbered j (parameterIn f) m (amount .0 ∙ ap Amount (by .1)) in
+      let amount = amount-by (j .capacity) (presetIn j (parameterIn f)) right in
+      let read : presetIn j (parameterIn f) ≡ Amount m = amount .0 ∙ ap Amount (by .1) in
+      let n : Numbered (j .resolution .unit) (parameterIn f) = numbered (j .resolution .unit) (parameterIn f) (preset-is-typed (j .resolution) _ read) in
       record {
         line = record { bytes = name-then (map byteIn f) (b .a-name) (both .1) ∙ ap (λ (x : ℕ). nameOf x ++ (space ∷ parameterIn f)) is; good = b .good };
         parts = n .parts;
         unit = n .unit;
-        number = n .number;
+        number = rw (n .number) at read;
         within = rw (by .1) at (amount .1);
         free = row .free;
       }
@@ -459,23 +459,23 @@ module _ (j : Situation) (f : List Marked) where
   -- ---- SR with a number
 
   pub change-line : {t : Threshold} → judgementOf j f ≡ Change t → ChangeLine j f t
-  unfolding ownRule isWrong
+  unfolding ownRule isWrong typedIn
   change-line {t} e =
       let row = last refl e in
       let b : Begins f = begins f (row .known) in
       let by = change-by (isD c) (isTA c && hasSpace (map byteIn f)) (isSR c && hasSpace (map byteIn f)) (length (parameterIn f) - 2)
-      (amountIn (typedIn j (parameterIn f))) (thresholdIn (typedIn j (parameterIn f))) c t (row .own-rule) in
+      (amountIn (presetIn j (parameterIn f))) (thresholdIn (typedIn j (parameterIn f))) c t (row .own-rule) in
       let both = and-eq-true-iff (isSR c) (hasSpace (map byteIn f)) .0 (by .0) in
       let is : c ≡ placeSR = eqb-true c placeSR (both .0) in
       let right : isThreshold j (parameterIn f) ≡ true = not-false (isThreshold j (parameterIn f)) (rw (is, both .1) at (row .right)) in
       let amount = threshold-by (j .capacity) (typedIn j (parameterIn f)) right in
       let same : amountIn (typedIn j (parameterIn f)) .0 ≡ t .0 = ap (λ (x : Threshold). x .0) (by .1) in
       let typed : typedIn j (parameterIn f) ≡ Amount (record { 0 = t .0 }) = amount .0 ∙ ap (λ (x : Threshold). Amount (record { 0 = x .0 })) (by .1) in
-      let n : Numbered j (parameterIn f) (record { 0 = t .0 }) = numbered j (parameterIn f) (record { 0 = t .0 }) typed in
+      let n : Numbered (j .resolution .unit) (parameterIn f) = numbered (j .resolution .unit) (parameterIn f) (amount-is-typed (j .resolution .unit) _ typed) in
       record {
         line = record { bytes = name-then (map byteIn f) (b .a-name) (both .1) ∙ ap (λ (x : ℕ). nameOf x ++ (space ∷ parameterIn f)) is; good = b .good };
         unit = n .unit;
-        number = n .number;
+        number = rw (n .number) at typed;
         typed = typed;
         least = rw same at (amount .1);
         within = rw same at (amount .2);

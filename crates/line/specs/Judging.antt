@@ -1,5 +1,5 @@
 -- Document 01, "Receiving": the table of a finished line, its rows in the paper's order, and the parameters of D, TA and SR
--- (document 02, No. 1).
+-- (document 02, No. 1 and No. 3).
 -- Assumes nothing.
 use Prim.Native.Nat.{ℕ, _-_}
 use mathlib.Core.Bool.{Bool, false, cond, not, _&&_, _||_}
@@ -16,13 +16,14 @@ use Rattle.line.specs.Receiving.{contentOf}
 use Rattle.weight.specs.declared.amount.Tare.{Tare}
 use Rattle.weight.specs.declared.amount.Typed.{Typed}
 use Rattle.weight.specs.declared.changes.Threshold.{Threshold}
+use Rattle.weight.specs.declared.units.WeightUnit.{WeightUnit}
 use Rattle.weight.specs.declared.amount.Typed.the-variants.{Amount, TooLarge, NotTyped}
 use Rattle.weight.specs.Characters.{quote}
 use Rattle.text.specs.Ascii.{sameText}
 use Rattle.text.specs.Printable.{isPrintable}
 use Rattle.text.specs.Searching.{beforeSpace, afterSpace, hasSpace}
 use Rattle.text.specs.UnitTexts.{unitText}
-use Rattle.text.specs.Typed.{readTyped}
+use Rattle.text.specs.Typed.{readPreset, readTyped}
 
 -- a byte below 32
 abbrev pub hasControl : List ℕ → Bool
@@ -70,14 +71,21 @@ thresholdOf capacity NotTyped = false
 abbrev pub thresholdIn : Typed → Threshold
 thresholdIn n = record { 0 = amountIn n .0 }
 
--- number, space, the profile's unit
+-- number, space, the profile's unit: the number's text, and no byte where the rest is not so
+unfoldable pub numberIn : WeightUnit → List ℕ → List ℕ
+numberIn u p = cond (hasSpace p && sameText (afterSpace p) (unitText u)) (beforeSpace p) []
+
+-- of TA: to the display step and the microgram (document 02, No. 3)
+unfoldable pub presetIn : Situation → List ℕ → Typed
+presetIn j p = readPreset (j .resolution) (numberIn (j .resolution .unit) p)
+
+-- of SR: to the microgram
 unfoldable pub typedIn : Situation → List ℕ → Typed
-typedIn j p =
-    cond (hasSpace p && sameText (afterSpace p) (unitText (j .resolution .unit))) (readTyped (j .resolution .unit) (beforeSpace p)) NotTyped
+typedIn j p = readTyped (j .resolution .unit) (numberIn (j .resolution .unit) p)
 
 -- of TA, not above C
 abbrev pub isPreset : Situation → List ℕ → Bool
-isPreset j p = presetOf (j .capacity) (typedIn j p)
+isPreset j p = presetOf (j .capacity) (presetIn j p)
 
 -- of SR, neither 0 nor above C
 abbrev pub isThreshold : Situation → List ℕ → Bool
@@ -100,7 +108,7 @@ unknownIn over t = over || hasControl t || leb (length names) (commandIn t)
 unfoldable pub ownRule : Situation → ℕ → List ℕ → Verdict
 ownRule j c t =
     cond (isD c) (Show (length (afterSpace t) - 2))
-    (cond (isTA c && hasSpace t) (Preset (amountIn (typedIn j (afterSpace t))))
+    (cond (isTA c && hasSpace t) (Preset (amountIn (presetIn j (afterSpace t))))
     (cond (isSR c && hasSpace t) (Change (thresholdIn (typedIn j (afterSpace t)))) (Run c)))
 
 -- the first row that applies

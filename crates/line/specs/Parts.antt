@@ -8,7 +8,7 @@ use Rattle.answer.specs.Commands.{needsSample, placeD, placeSR, placeTA}
 use Rattle.line.specs.declared.judge.Situation.{Situation}
 use Rattle.line.specs.declared.judge.Verdict.{Verdict}
 use Rattle.line.specs.declared.judge.Verdict.the-variants.{Wrong, NoSample, Preset, Change, Show}
-use Rattle.line.specs.Judging.{isQuoted, typedIn, presetOf, amountIn, thresholdOf, thresholdIn, isWrong, table, ownRule}
+use Rattle.line.specs.Judging.{isQuoted, presetIn, typedIn, presetOf, amountIn, thresholdOf, thresholdIn, isWrong, table, ownRule}
 use Rattle.weight.specs.declared.amount.Typed.{Typed}
 
 -- rows 6 to 8 of D with the parameter p
@@ -21,7 +21,7 @@ amountRule capacity n = cond (presetOf capacity n) (Preset (amountIn n)) (Wrong 
 
 -- rows 6 to 8 of TA with the parameter p
 unfoldable pub presetRule : Situation → List ℕ → Verdict
-presetRule j p = amountRule (j .capacity) (typedIn j p)
+presetRule j p = amountRule (j .capacity) (presetIn j p)
 
 -- rows 6 to 8 of SR with a number as read
 unfoldable pub thresholdRule : ℕ → Typed → Verdict

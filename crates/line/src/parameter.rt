@@ -1,6 +1,6 @@
 // The parameters of D, TA and SR.
 ghost use mathlib.Core.Path.{_≡_};
-ghost use Rattle.line.specs.Judging.{isShown, isQuoted, typedIn};
+ghost use Rattle.line.specs.Judging.{isShown, isQuoted, numberIn};
 ghost use Rattle.line.specs.Parts.{showRule, amountRule, presetRule, thresholdRule, changeRule};
 use crate::judge::Situation;
 use crate::judge::Verdict;
@@ -10,8 +10,10 @@ use answer::TA;
 use text::first_at;
 use text::is_printable;
 use text::is_unit;
+use text::read_preset;
 use text::read_typed;
 use weight::Typed;
+use weight::WeightUnit;
 use weight::is_tare_within;
 use weight::is_threshold_within;
 use weight::threshold_of;
@@ -85,33 +87,37 @@ fn threshold_rule(capacity: u32, typed: Typed) -> Verdict
     }
 }
 
-// Number, space, the profile's unit.
-fn typed_in(situation: Situation, parameter: &[u8]) -> Typed
-    ensures { λ r. ⌜ r ≡ typedIn situation (now (parameter .entry)) ⌝ }
+// Number, space, the profile's unit: the number, and no byte where the rest is not so.
+fn number_in(unit: WeightUnit, parameter: &[u8]) -> &[u8]
+    ensures { λ r. ⌜ now r ≡ numberIn unit (now (parameter .entry)) ⌝ }
 {
-    let resolution = situation.resolution;
-    let unit = resolution.unit;
     let space = first_at(parameter, b' ');
     if parameter.len() <= space {
-        return Typed::NotTyped;
+        return &parameter[..0];
     }
     let start = space + 1;
     if is_unit(&parameter[start..], unit) {
-        return read_typed(unit, &parameter[..space]);
+        return &parameter[..space];
     }
-    Typed::NotTyped
+    &parameter[..0]
 }
 
 // What TA does with its parameter.
 pub fn preset_rule(situation: Situation, parameter: &[u8]) -> Verdict
     ensures { λ r. ⌜ r ≡ presetRule situation (now (parameter .entry)) ⌝ }
 {
-    amount_rule(situation.capacity, typed_in(situation, parameter))
+    let resolution = situation.resolution;
+    let unit = resolution.unit;
+    let typed = read_preset(resolution, number_in(unit, parameter));
+    amount_rule(situation.capacity, typed)
 }
 
 // What SR does with its parameter.
 pub fn change_rule(situation: Situation, parameter: &[u8]) -> Verdict
     ensures { λ r. ⌜ r ≡ changeRule situation (now (parameter .entry)) ⌝ }
 {
-    threshold_rule(situation.capacity, typed_in(situation, parameter))
+    let resolution = situation.resolution;
+    let unit = resolution.unit;
+    let typed = read_typed(unit, number_in(unit, parameter));
+    threshold_rule(situation.capacity, typed)
 }

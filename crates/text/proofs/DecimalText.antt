@@ -6,10 +6,10 @@ use mathlib.Core.List.{List, [], _∷_}
 use Prim.Native.Nat.{ℕ, suc, _+_, _-_, _*_, _^_, _≤_, _<_}
 use native.Mathlib.Nat.{add-zero, zero-add, add-suc, suc-add, pow-suc, one-le-pow, pow-le-pow-right}
 use native.Mathlib.Omega.{arith}
-use lib.Dec.{leb}
+use lib.Dec.{eqb, leb}
 use lib.ListN.{length, take, drop, length-drop}
 use lib.Seq.{length-take-le}
-use borrow.Author.Tests.{le-ltb, lt-ltb, le-leb, lt-leb, leb-true}
+use borrow.Author.Tests.{le-ltb, lt-ltb, le-leb, lt-leb, leb-true, eqb-true}
 use Rattle.weight.specs.Characters.{point}
 use Rattle.text.specs.Decimals.{TenDigits, ReadsWhole, ReadsDecimal}
 use Rattle.text.specs.Searching.{FirstAt}
@@ -74,6 +74,29 @@ decimals-limit t e = decimal-parts t e .few
 -- a text of digits, one at least
 pub number-parts : (t : List ℕ) → isNumber t ≡ true → (1 ≤ length t) × (allDigits t ≡ true)
 number-parts t e = let b = both (leb 1 (length t)) (allDigits t) e in (leb-true 1 (length t) (b .0), b .1)
+
+-- what holds of no bytes, and of a digit or the point before bytes of which it holds, holds of a decimal
+module _ (P : List ℕ → Type 0) (none : P []) (next : (c : ℕ) (t : List ℕ) → point ≤ c → c ≤ 57 → P t → P (c ∷ t)) where
+  of-digits : (t : List ℕ) → allDigits t ≡ true → P t
+  of-digits [] e = none
+  of-digits (c ∷ t) e =
+      let d = both (isDigit c) (allDigits t) e in
+      let r = digit-range c (d .0) in
+      next c t (omega (arith, r .0)) (r .1) (of-digits t (d .1))
+
+  of-sides : (t : List ℕ) → allDigits (beforePoint t) ≡ true → allDigits (afterPoint t) ≡ true → P t
+  of-sides [] w f = none
+  of-sides (c ∷ t) w f = go (eqb c point) refl (of-sides t)
+    where
+      go : (b : Bool) → eqb c point ≡ b → (allDigits (beforePoint t) ≡ true → allDigits (afterPoint t) ≡ true → P t) → P (c ∷ t)
+      go true e rest = let is = eqb-true c point e in next c t (omega (arith, is)) (omega (arith, is)) (of-digits t (rw e at f))
+      go false e rest =
+          let d = both (isDigit c) (allDigits (beforePoint t)) (rw e at w) in
+          let r = digit-range c (d .0) in
+          next c t (omega (arith, r .0)) (r .1) (rest (d .1) (rw e at f))
+
+  pub decimal-bytes : (t : List ℕ) → isDecimal t ≡ true → P t
+  decimal-bytes t e = let d = decimal-parts t e in of-sides t (number-parts (beforePoint t) (d .whole) .1) (d .digits)
 
 -- ten characters hold a number below 10^10
 value-small : (t : List ℕ) → length t ≤ 10 → isDecimal t ≡ true → valueIn t < 10_000_000_000

@@ -10,5 +10,5 @@ mod Printing
 pub mod ReadBack
 mod SameText
 pub mod Searching
-mod TypedText
+pub mod TypedText
 pub mod WriteBack

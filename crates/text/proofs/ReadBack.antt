@@ -16,6 +16,7 @@ use Rattle.weight.specs.Places.{lastDigits, digitsOf, decimalOf, numberText, wi
 use Rattle.text.specs.Field.{fieldOf}
 use Rattle.text.specs.Reading.{beforePoint, afterPoint, hasPoint, isDigit, allDigits, numberFrom, isNumber, isDecimal, decimalsIn, valueIn}
 use Rattle.text.specs.Reading.{afterSpaces, hasMinus, noLeadingZero, isWritten, readNumber, readField}
+use Rattle.text.specs.Typed.{isTyped}
 use Rattle.weight.proofs.Digits.{digits-small, digits-step, length-last-digits, last-digits-cons}
 use Rattle.text.proofs.DecimalText.{both, digit-range}
 
@@ -238,3 +239,17 @@ read-back d n e =
     let sum = length-append pad (numberText d n) in
     let long : length (pad ++ numberText d n) ≡ 10 = omega (arith, sum, length-replicate (10 - length (numberText d n)) space) in
     rw (eq-eqb (length (pad ++ numberText d n)) 10 long, spaces-off (10 - length (numberText d n)) (numberText d n) (b .first)) (b .read)
+
+-- a number that is not below zero, typed as it was written
+pub record TypedBack (d m : ℕ) (t : List ℕ) : Type 0 where
+  pub is : isTyped t ≡ true
+  pub places : decimalsIn t ≡ d
+  pub number : valueIn t ≡ m
+
+pub typed-back : (d m : ℕ) → fitsField d (pos m) ≡ true → TypedBack d m (afterSpaces (fieldOf d (pos m)))
+unfolding fitsField fieldOf widthOf numberText isTyped
+typed-back d m e =
+    let fits = both (leb d 6) (leb (length (decimalOf d m)) 10) e in
+    let b = decimal-back d m (leb-true d 6 (fits .0)) in
+    rw (spaces-off (10 - length (decimalOf d m)) (decimalOf d m) (digit-no-space (decimalOf d m) (b .first)))
+    (record { is = rw (fits .1) (b .is); places = b .places; number = b .number })

@@ -17,6 +17,7 @@ pub use scanning::is_printable;
 pub use scanning::part;
 pub use scanning::same_text;
 pub use short::ShortText;
+pub use typed::read_preset;
 pub use typed::read_typed;
 pub use unit_texts::UnitRead;
 pub use unit_texts::is_unit;

@@ -13,7 +13,7 @@ use Rattle.weight.specs.Units.{nanogramsOf}
 use Rattle.weight.specs.Rounding.{allowedResolution, halfUp, placesOf, placeFemtograms, stepFemtograms, printedFemtograms, exactFemtograms, Near}
 use Rattle.weight.specs.Amounts.{typedMicrograms, typedFemtograms}
 use Rattle.weight.proofs.Allowed.{allowed-decimals, allowed-divisor-positive, power-positive}
-use Rattle.weight.proofs.HalfUp.{half-up-not-over, half-up-near, half-up-only, half-up-tie-up}
+use Rattle.weight.proofs.HalfUp.{half-up-not-over, half-up-near, half-up-only, half-up-scaled}
 use Rattle.weight.proofs.Monotone.{naturalPlaces, places-of-pos, places-of-negsuc, times-odd}
 use Rattle.weight.proofs.Nearness.{near-naturals, near-negated, near-triangle, near-shift, difference-times}
 use Rattle.weight.proofs.Range.{size-product}
@@ -108,19 +108,11 @@ typed-near u d v h =
     (scale-split d h)
     (mul-pos {m = 1000} (omega arith) (power-positive d)))
 
--- s and e are the two scales, t their product: rounding a number and rounding it in finer parts are the same
-scaled-rounded : (m s e t : ℕ) → s * e ≡ t → 0 < s → 0 < e → halfUp (m * e) t ≡ halfUp m s
-scaled-rounded m s e t scales h k =
-    half-up-only (m * e) t (halfUp m s)
-    (rw (← scales) (mul-pos h k))
-    (omega (arith, mul-le-mul-right e (half-up-not-over m s), ap (λ (x : ℕ). x * halfUp m s) scales, scales))
-    (omega (arith, mul-le-mul-right e (half-up-tie-up m s h), ap (λ (x : ℕ). x * halfUp m s) scales, scales))
-
 -- what a typed number is stored as is the nearest microgram of its femtograms, a tie upwards
 pub typed-rounded : (u : WeightUnit) (d v : ℕ) → d ≤ 6 → typedMicrograms u d v ≡ halfUp (typedFemtograms u d v) 1_000_000_000
 unfolding typedMicrograms typedFemtograms
 typed-rounded u d v h =
-    sym (scaled-rounded (v * nanogramsOf u) (1000 * 10 ^ d) (10 ^ (6 - d)) 1_000_000_000 (scale-split d h)
+    sym (half-up-scaled (v * nanogramsOf u) (1000 * 10 ^ d) (10 ^ (6 - d)) 1_000_000_000 (scale-split d h)
     (mul-pos {m = 1000} (omega arith) (power-positive d))
     (power-positive (6 - d)))
 

@@ -1,9 +1,9 @@
 -- Rounding a natural number to the nearest multiple, a tie upwards.
 -- Assumes nothing.
 use Prim.Native.Nat.{ℕ, zero, suc, _+_, _*_, _/_, _%_, _≤_, _<_}
-use native.Mathlib.Nat.{div-zero, div-eq-of-lt, div-mul-le-self, lt-div-mul-add, div-add-mod', mod-lt, div-eq-of-lt-le, div-lt-iff-lt-mul, le-div-iff-mul-le, mul-le-mul-left, suc-mul, mul-left-comm, le-of-suc-le-suc}
+use native.Mathlib.Nat.{div-zero, div-eq-of-lt, div-mul-le-self, lt-div-mul-add, div-add-mod', mod-lt, div-eq-of-lt-le, div-lt-iff-lt-mul, le-div-iff-mul-le, mul-le-mul-left, mul-le-mul-right, mul-pos, suc-mul, mul-left-comm, le-of-suc-le-suc}
 use native.Mathlib.Omega.{arith}
-use mathlib.Core.Path.{_≡_, refl}
+use mathlib.Core.Path.{_≡_, refl, ap}
 use Rattle.weight.specs.Rounding.{halfUp}
 
 -- the rounded multiple of n is less than half of n below m: a tie goes up
@@ -64,3 +64,11 @@ half-up-within m n h =
     let grows : m * 1 ≤ m * n = mul-le-mul-left m h in
     let below : 2 * m + n < suc m * (2 * n) = simp (suc-mul, mul-left-comm) (omega arith) in
     le-of-suc-le-suc (div-lt-iff-lt-mul double .1 below)
+
+-- a factor e of both cancels; t is the divisor with it
+pub half-up-scaled : (m s e t : ℕ) → s * e ≡ t → 0 < s → 0 < e → halfUp (m * e) t ≡ halfUp m s
+half-up-scaled m s e t product h k =
+    half-up-only (m * e) t (halfUp m s)
+    (rw (← product) (mul-pos h k))
+    (omega (arith, mul-le-mul-right e (half-up-not-over m s), ap (λ (x : ℕ). x * halfUp m s) product, product))
+    (omega (arith, mul-le-mul-right e (half-up-tie-up m s h), ap (λ (x : ℕ). x * halfUp m s) product, product))

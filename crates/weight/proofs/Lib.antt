@@ -11,6 +11,7 @@ pub mod Monotone
 pub mod Moves
 pub mod Nearness
 mod Nearest
+pub mod Presets
 mod Printable
 mod Range
 pub mod SignedPlaces

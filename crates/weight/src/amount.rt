@@ -1,6 +1,6 @@
 // The amounts of numbers that a user types, as TA takes them.
 ghost use mathlib.Core.Path.{_≡_};
-ghost use Prim.Native.Nat.{_^_, _<_};
+ghost use Prim.Native.Nat.{_+_, _^_, _<_};
 ghost use Rattle.weight.specs.Rounding.{halfUp};
 ghost use Rattle.weight.specs.Amounts.{MostPlaces, typedAmount};
 use crate::rounding::scale_of;
@@ -36,10 +36,10 @@ fn most_places(unit: WeightUnit) -> u64
 }
 
 // value / by to the nearest whole number, a tie upwards: a typed number has no sign, so one unsigned division does.
-fn half_up(value: u64, by: u64) -> u64
+pub fn half_up(value: u64, by: u64) -> u64
     requires { ⌜ 0 < by ⌝ }
     requires { ⌜ by < 2 ^ 62 ⌝ }
-    requires { ⌜ value < 2 ^ 63 ⌝ }
+    requires { ⌜ value + 1 < 2 ^ 64 ⌝ }
     ensures { λ r. ⌜ r ≡ halfUp value by ⌝ }
 {
     let quotient = value / by;

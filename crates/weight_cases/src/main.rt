@@ -2,6 +2,7 @@
 // out by itself, and the two are compared.
 mod fields;
 mod nets;
+mod preset;
 mod show;
 mod texts;
 mod ties;
@@ -20,6 +21,9 @@ fn main() {
     typed::form_cases();
     typed::tie_cases();
     typed::large_cases();
+    preset::request_cases();
+    preset::first_tie_cases();
+    preset::second_tie_cases();
     fields::written_cases();
     fields::read_cases();
     fields::other_cases();

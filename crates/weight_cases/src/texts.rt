@@ -1,13 +1,16 @@
 // Lists of texts for the functions that read.
 use crate::fields;
+use crate::preset;
 use crate::typed;
 use crate::units;
+use weight::Resolution;
 use weight::WeightUnit;
 
 // What the texts of a list are read as.
 pub enum Kind {
     Unit,
     Typed(WeightUnit),
+    Preset(Resolution),
     Field,
 }
 
@@ -15,6 +18,7 @@ fn one(kind: Kind, text: &[u8]) {
     match kind {
         Kind::Unit => units::named(text),
         Kind::Typed(unit) => typed::typed(unit, text),
+        Kind::Preset(r) => preset::preset(r, text),
         Kind::Field => fields::read(text),
     }
 }

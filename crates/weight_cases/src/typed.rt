@@ -1,21 +1,25 @@
-// Numbers that a user types, in micrograms.
+// Numbers that a user types, to the microgram.
 use crate::show;
 use crate::texts;
 use crate::texts::Kind;
 use weight::Typed;
 use weight::WeightUnit;
 
-pub fn typed(unit: WeightUnit, text: &[u8]) {
-    show::text(b"typed");
-    show::unit(unit);
-    show::quoted(text);
-    let found = text::read_typed(unit, text);
-    match found {
+// What a text was read as, and the line's end.
+pub fn found(read: Typed) {
+    match read {
         Typed::Amount(m) => show::whole(m.0 as i64),
         Typed::TooLarge => show::text(b" too large"),
         Typed::NotTyped => show::text(b" no"),
     }
     show::end();
+}
+
+pub fn typed(unit: WeightUnit, text: &[u8]) {
+    show::text(b"typed");
+    show::unit(unit);
+    show::quoted(text);
+    found(text::read_typed(unit, text));
 }
 
 fn each(unit: WeightUnit, list: &[u8]) {

@@ -5,8 +5,11 @@ use Rattle.line.proofs.Parameters.{change-read}
 use Rattle.line.proofs.parameter.change_rule.Statement.{statement}
 use Rattle.line.proofs.parameter.change_rule.Tie as tie
 
-typed-in-requires : tie.Need-typed-in-requires
-typed-in-requires c κs = search needs
+number-in-requires : tie.Need-number-in-requires
+number-in-requires c κs = search needs
+
+read-typed-requires : tie.Need-read-typed-requires
+read-typed-requires c κs = search needs
 
 threshold-rule-requires : tie.Need-threshold-rule-requires
 threshold-rule-requires c κs = search needs
@@ -15,4 +18,5 @@ returns : tie.Need-returns
 returns c = search (needs, change-read)
 
 pub change-rule-spec : {M : Type 1} → statement M
-change-rule-spec = tie.close (tie.spec typed-in-requires threshold-rule-requires returns)
+change-rule-spec =
+    tie.close (tie.spec number-in-requires read-typed-requires threshold-rule-requires returns)

@@ -5,8 +5,11 @@ use Rattle.line.proofs.Parameters.{preset-read}
 use Rattle.line.proofs.parameter.preset_rule.Statement.{statement}
 use Rattle.line.proofs.parameter.preset_rule.Tie as tie
 
-typed-in-requires : tie.Need-typed-in-requires
-typed-in-requires c κs = search needs
+number-in-requires : tie.Need-number-in-requires
+number-in-requires c κs = search needs
+
+read-preset-requires : tie.Need-read-preset-requires
+read-preset-requires c κs = search needs
 
 amount-rule-requires : tie.Need-amount-rule-requires
 amount-rule-requires c κs = search needs
@@ -15,4 +18,5 @@ returns : tie.Need-returns
 returns c = search (needs, preset-read)
 
 pub preset-rule-spec : {M : Type 1} → statement M
-preset-rule-spec = tie.close (tie.spec typed-in-requires amount-rule-requires returns)
+preset-rule-spec =
+    tie.close (tie.spec number-in-requires read-preset-requires amount-rule-requires returns)

@@ -50,7 +50,7 @@ half-up-requires c κs =
     let given = few .before .args in
     rw (c .scale-of .ensures) (
       omega (arith, power-positive (given .decimals)),
-      (omega (arith, scale-limit (given .decimals) (few .if1 .left)), exact-at (c .before .before)),
+      (omega (arith, scale-limit (given .decimals) (few .if1 .left)), omega (arith, exact-at (c .before .before))),
     )
 
 -- the local `rounded` is the typed number in micrograms

@@ -1,0 +1,70 @@
+// Typed tares, in micrograms: a resolution and what a text is stored as.
+use crate::show;
+use crate::texts;
+use crate::texts::Kind;
+use crate::typed;
+use weight::Resolution;
+use weight::WeightUnit;
+
+pub fn preset(r: Resolution, text: &[u8]) {
+    show::text(b"preset");
+    show::resolution(r);
+    show::quoted(text);
+    typed::found(text::read_preset(r, text));
+}
+
+fn each(unit: WeightUnit, decimals: u8, step: u8, list: &[u8]) {
+    let r = Resolution {
+        unit,
+        decimals,
+        step,
+    };
+    texts::each(Kind::Preset(r), list);
+}
+
+// Document 02, No. 3, and its corners.
+pub fn request_cases() {
+    each(
+        WeightUnit::G,
+        4,
+        1,
+        b"220.000001|220.000049|220.00005|0.00005|0.000049|",
+    );
+    each(WeightUnit::G, 4, 5, b"0.00025|0.000249|");
+    each(WeightUnit::G, 0, 5, b"1002.4|1002.5|");
+    each(WeightUnit::Oz, 0, 5, b"37.4|37.5|");
+    each(WeightUnit::Oz, 5, 1, b"4|1.000005|1.000004|");
+    // Neither of the two is a number, and none of these resolutions is a profile's.
+    each(WeightUnit::G, 4, 1, b"1.|00000000001|");
+    each(WeightUnit::G, 4, 0, b"1|");
+    each(WeightUnit::G, 4, 3, b"1|");
+    each(WeightUnit::Gn, 5, 1, b"1|");
+    each(WeightUnit::Oz, 7, 5, b"1|");
+}
+
+// Half a display step of each k, and what is just below it; the largest text.
+fn halves(unit: WeightUnit) {
+    each(unit, 2, 1, b"1.005|1.004999|9999999999|");
+    each(unit, 2, 2, b"1.01|1.009999|9999999999|");
+    each(unit, 2, 5, b"1.025|1.024999|9999999999|");
+    each(unit, 0, 5, b"2.5|2.499999|9999999999|");
+}
+
+pub fn first_tie_cases() {
+    halves(WeightUnit::G);
+    halves(WeightUnit::Mg);
+    halves(WeightUnit::Ct);
+    halves(WeightUnit::Oz);
+    halves(WeightUnit::Ozt);
+    halves(WeightUnit::Gn);
+    halves(WeightUnit::Dwt);
+}
+
+// Decimals in the middle between two micrograms, with what is rounded to them; the steps of g, mg and ct are whole micrograms.
+pub fn second_tie_cases() {
+    each(WeightUnit::Oz, 5, 1, b"4|3.999995|4.000004|3.999994|");
+    each(WeightUnit::Ozt, 5, 1, b"0.3125|0.312495|0.312504|0.312494|");
+    each(WeightUnit::Gn, 4, 1, b"50|49.99995|50.00004|49.99994|");
+    each(WeightUnit::Dwt, 4, 1, b"6.25|6.24995|6.25004|6.24994|");
+    each(WeightUnit::Mg, 3, 1, b"0.0005|0.000499|");
+}

@@ -1,5 +1,5 @@
 #!/usr/bin/env python3
-"""The expected output of crates/weight_cases, worked out from document 01 alone.
+"""The expected output of crates/weight_cases, worked out from documents 01 and 02 alone.
 
 Units, rounding, the ten characters and typed numbers are written here a second time, in exact
 fractions and in text. This file shares nothing with the Rattle code but the list of cases, which
@@ -316,7 +316,7 @@ def tie_cases():
 
 def typed_cases():
     for text in [
-        # Document 01, "Bench cases".
+        # Document 01's bench cases of TA, as SR reads them.
         "100.00", "-1", "220.000001", "1.",
         # 0 to 11 characters.
         "", "5", "50", "5.0", "50.0", "50.00", "50.000", "50.0000", "50.00000", "50.000000",
@@ -369,15 +369,20 @@ def presets(unit, decimals, step, texts):
         preset(unit, decimals, step, text)
 
 
+def preset_bench_cases():
+    """Document 01, "Bench cases"."""
+    presets("g", 4, 1, "100.00 -1 220.000001 1.")
+
+
 def preset_request_cases():
     """Document 02, No. 3, and its corners."""
-    presets("g", 4, 1, "220.000001 220.000049 220.00005 0.00005 0.000049")
+    presets("g", 4, 1, "220.000049 220.00005 0.00005 0.000049")
     presets("g", 4, 5, "0.00025 0.000249")
     presets("g", 0, 5, "1002.4 1002.5")
     presets("oz", 0, 5, "37.4 37.5")
     presets("oz", 5, 1, "4 1.000005 1.000004")
     # No number; no profile's resolution.
-    presets("g", 4, 1, "1. 00000000001")
+    presets("g", 4, 1, "00000000001")
     for unit, decimals, step in [("g", 4, 0), ("g", 4, 3), ("GN", 5, 1), ("oz", 7, 5)]:
         assert not allowed(unit, decimals, step)
         preset(unit, decimals, step, "1")
@@ -489,6 +494,7 @@ def expected():
     typed_cases()
     typed_tie_cases()
     typed_large_cases()
+    preset_bench_cases()
     preset_request_cases()
     preset_first_tie_cases()
     preset_second_tie_cases()
@@ -510,8 +516,8 @@ def check():
     ):
         print(line)
     if have != want:
-        sys.exit("weight_cases: crates/weight_cases/stdout is not what document 01 gives")
-    print(f"ok: the {len(lines)} lines of crates/weight_cases/stdout are what document 01 gives")
+        sys.exit("weight_cases: crates/weight_cases/stdout is not what the documents give")
+    print(f"ok: the {len(lines)} lines of crates/weight_cases/stdout are what the documents give")
 
 
 if __name__ == "__main__":

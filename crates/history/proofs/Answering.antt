@@ -52,9 +52,9 @@ unfolding showsTyped
 alone-shown p t i l e = rw (e, and-false (tellsTare l))
 
 -- the ten characters that are due
-typed-shown : (p : Profile) (t : Tally) (i : Input) (l : List ℕ) → tenOf l ≡ typedField p (endedText t i) → showsTyped p t i l ≡ true
+due-shown : (p : Profile) (t : Tally) (i : Input) (l : List ℕ) → tenOf l ≡ typedField p (endedText t i) → showsTyped p t i l ≡ true
 unfolding showsTyped
-typed-shown p t i l e = rw (e, same-self (typedField p (endedText t i))) (or-true (not (grantsTyped t i l)))
+due-shown p t i l e = rw (e, same-self (typedField p (endedText t i))) (or-true (not (grantsTyped t i l)))
 
 -- an answer that grants and weighs nothing
 pub answered-silent : (p : Profile) (t : Tally) (i : Input) (w : Weighing) (l : List ℕ) → Follows w (afterReset t i (taken t i)) → Silent l → Answered p t i w l
@@ -263,6 +263,6 @@ module _ (p : Profile) (t : Tally) (i : Input) (w : Weighing) (not-reset : after
               end
               other
               decimal;
-          shown = typed-shown p t i l (s .ten ∙ printed);
+          shown = due-shown p t i l (s .ten ∙ printed);
           follows = g;
         }

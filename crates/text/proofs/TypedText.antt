@@ -1,6 +1,6 @@
 -- The tests of a typed text, and the two amounts that are read of it.
 -- Assumes nothing.
-use mathlib.Core.Path.{_≡_, refl, sym, ap, _∙_}
+use mathlib.Core.Path.{_≡_, refl, sym, _∙_}
 use mathlib.Core.Bool.{Bool, true, false, cond, _&&_, and-true, and-false}
 use mathlib.Core.List.{List}
 use Prim.Native.Nat.{ℕ, _≤_, _<_}
@@ -14,8 +14,8 @@ use Rattle.weight.specs.declared.units.WeightUnit.{WeightUnit}
 use Rattle.weight.specs.declared.amount.Tare.{Tare}
 use Rattle.weight.specs.declared.amount.Typed.{Typed}
 use Rattle.weight.specs.declared.amount.Typed.the-variants.{Amount, NotTyped}
-use Rattle.weight.specs.Amounts.{typedMicrograms, amountOf, typedAmount}
-use Rattle.weight.specs.Presets.{largestTyped, presetPlaces, presetMicrograms, presetAmount}
+use Rattle.weight.specs.Amounts.{typedAmount}
+use Rattle.weight.specs.Presets.{largestTyped, presetPlaces, presetAmount}
 use Rattle.weight.specs.Rounding.{allowedResolution}
 use Rattle.weight.proofs.Allowed.{both-left, both-right}
 use Rattle.weight.proofs.Presets.{preset-again}

@@ -21,6 +21,7 @@ fn main() {
     typed::form_cases();
     typed::tie_cases();
     typed::large_cases();
+    preset::bench_cases();
     preset::request_cases();
     preset::first_tie_cases();
     preset::second_tie_cases();

@@ -22,20 +22,25 @@ fn each(unit: WeightUnit, decimals: u8, step: u8, list: &[u8]) {
     texts::each(Kind::Preset(r), list);
 }
 
+// Document 01, "Bench cases".
+pub fn bench_cases() {
+    each(WeightUnit::G, 4, 1, b"100.00|-1|220.000001|1.|");
+}
+
 // Document 02, No. 3, and its corners.
 pub fn request_cases() {
     each(
         WeightUnit::G,
         4,
         1,
-        b"220.000001|220.000049|220.00005|0.00005|0.000049|",
+        b"220.000049|220.00005|0.00005|0.000049|",
     );
     each(WeightUnit::G, 4, 5, b"0.00025|0.000249|");
     each(WeightUnit::G, 0, 5, b"1002.4|1002.5|");
     each(WeightUnit::Oz, 0, 5, b"37.4|37.5|");
     each(WeightUnit::Oz, 5, 1, b"4|1.000005|1.000004|");
-    // Neither of the two is a number, and none of these resolutions is a profile's.
-    each(WeightUnit::G, 4, 1, b"1.|00000000001|");
+    // No number, and no profile's resolution.
+    each(WeightUnit::G, 4, 1, b"00000000001|");
     each(WeightUnit::G, 4, 0, b"1|");
     each(WeightUnit::G, 4, 3, b"1|");
     each(WeightUnit::Gn, 5, 1, b"1|");

@@ -1,4 +1,4 @@
-// Numbers that a user types, to the microgram.
+// Numbers that a user types, to the microgram, as SR takes them.
 use crate::show;
 use crate::texts;
 use crate::texts::Kind;
@@ -30,7 +30,7 @@ fn grams(list: &[u8]) {
     each(WeightUnit::G, list);
 }
 
-// Document 01, "Bench cases".
+// Document 01's bench cases of TA, as SR reads them.
 pub fn bench_cases() {
     grams(b"100.00|-1|220.000001|1.|");
 }

@@ -1,11 +1,7 @@
 -- `weight::preset::preset_amount` meets its contract.
 -- Assumes nothing.
-use mathlib.Core.Path.{_≡_, sym, _∙_}
 use borrow.Author.Needs.{needs}
-use Rattle.weight.specs.Presets.{presetMicrograms}
-use Rattle.weight.proofs.Allowed.{allowed-decimals}
 use Rattle.weight.proofs.Presets.{Preset, preset-tests, preset-read, preset-not}
-use Rattle.weight.proofs.TypedLimit.{typed-amount}
 use Rattle.weight.proofs.preset.preset_amount.Statement.{statement}
 use Rattle.weight.proofs.preset.preset_amount.Tie as tie
 

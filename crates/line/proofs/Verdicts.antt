@@ -33,7 +33,7 @@ use Rattle.text.specs.Ascii.{ascii, sameText}
 use Rattle.text.specs.UnitTexts.{unitText}
 use Rattle.text.specs.Reading.{isDecimal}
 use Rattle.text.specs.Typed.{isTyped, readPreset, readTyped}
-use Rattle.text.proofs.TypedText.{amount-is-typed, preset-is-typed}
+use Rattle.text.proofs.TypedText.{amount-is-typed, preset-of}
 use Rattle.weight.proofs.Allowed.{both-right, neither-left, neither-right}
 use Rattle.text.proofs.Named.{same-is}
 use Rattle.text.proofs.Searching.{first-between, none-between}
@@ -446,7 +446,7 @@ module _ (j : Situation) (f : List Marked) where
       not-false (isPreset j (parameterIn f)) (neither-left (not (isPreset j (parameterIn f))) false (rw (is, both .1) at (row .right))) in
       let amount = amount-by (j .capacity) (presetIn j (parameterIn f)) right in
       let read : presetIn j (parameterIn f) ≡ Amount m = amount .0 ∙ ap Amount (by .1) in
-      let n : Numbered (j .resolution .unit) (parameterIn f) = numbered (j .resolution .unit) (parameterIn f) (preset-is-typed (j .resolution) _ read) in
+      let n : Numbered (j .resolution .unit) (parameterIn f) = numbered (j .resolution .unit) (parameterIn f) (preset-of (j .resolution) _ read .typed) in
       record {
         line = record { bytes = name-then (map byteIn f) (b .a-name) (both .1) ∙ ap (λ (x : ℕ). nameOf x ++ (space ∷ parameterIn f)) is; good = b .good };
         parts = n .parts;

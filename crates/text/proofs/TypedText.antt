@@ -1,6 +1,6 @@
 -- The tests of a typed text, and the two amounts that are read of it.
 -- Assumes nothing.
-use mathlib.Core.Path.{_≡_, refl, sym, _∙_}
+use mathlib.Core.Path.{_≡_, refl, sym, ap, _∙_}
 use mathlib.Core.Bool.{Bool, true, false, cond, _&&_, and-true, and-false}
 use mathlib.Core.List.{List}
 use Prim.Native.Nat.{ℕ, _≤_, _<_}
@@ -13,9 +13,9 @@ use Rattle.weight.specs.declared.rounding.Resolution.{Resolution}
 use Rattle.weight.specs.declared.units.WeightUnit.{WeightUnit}
 use Rattle.weight.specs.declared.amount.Tare.{Tare}
 use Rattle.weight.specs.declared.amount.Typed.{Typed}
-use Rattle.weight.specs.declared.amount.Typed.the-variants.{Amount, NotTyped}
-use Rattle.weight.specs.Amounts.{typedAmount}
-use Rattle.weight.specs.Presets.{largestTyped, presetPlaces, presetAmount}
+use Rattle.weight.specs.declared.amount.Typed.the-variants.{Amount, TooLarge, NotTyped}
+use Rattle.weight.specs.Amounts.{largestCapacity, amountOf, typedAmount}
+use Rattle.weight.specs.Presets.{largestTyped, presetPlaces, presetMicrograms, presetAmount}
 use Rattle.weight.specs.Rounding.{allowedResolution}
 use Rattle.weight.proofs.Allowed.{both-left, both-right}
 use Rattle.weight.proofs.Presets.{preset-again}
@@ -75,18 +75,38 @@ module _ {t : List ℕ} {good : Bool} {d v : ℕ} (number : ReadsTyped t good d 
   unfolding readPreset
   preset-stray r e = rw (sym (number .is) ∙ e, and-false (allowedResolution r))
 
--- an amount is that of a typed number
+-- ---- what was read of an amount
+
 amount-by : {m : Tare} (b : Bool) (n : Typed) → cond b n NotTyped ≡ Amount m → b ≡ true
 amount-by true n e = refl
 amount-by false n e = let z : _≡_ {A = ℕ} 0 1 = cc in absurd (omega arith)
+
+amount-is : {m : Tare} (n : ℕ) → amountOf n ≡ Amount m → m .0 ≡ n
+unfolding amountOf
+amount-is {m} n = by (leb n largestCapacity)
+  where
+    by : (b : Bool) → cond b (Amount (record { 0 = n })) TooLarge ≡ Amount m → m .0 ≡ n
+    by true e = let same : m ≡ record { 0 = n } = cc in ap (λ (x : Tare). x .0) same
+    by false e = let z : _≡_ {A = ℕ} 0 1 = cc in absurd (omega arith)
 
 pub amount-is-typed : {m : Tare} (u : WeightUnit) (t : List ℕ) → readTyped u t ≡ Amount m → isTyped t ≡ true
 unfolding readTyped
 amount-is-typed u t e = amount-by (isTyped t) _ e
 
-pub preset-is-typed : {m : Tare} (r : Resolution) (t : List ℕ) → readPreset r t ≡ Amount m → isTyped t ≡ true
+pub record PresetOf (r : Resolution) (t : List ℕ) (m : ℕ) : Type 0 where
+  pub allowed : allowedResolution r ≡ true
+  pub typed : isTyped t ≡ true
+  pub amount : m ≡ presetMicrograms r (decimalsIn t) (valueIn t)
+
+pub preset-of : {m : Tare} (r : Resolution) (t : List ℕ) → readPreset r t ≡ Amount m → PresetOf r t (m .0)
 unfolding readPreset
-preset-is-typed r t e = both-right (allowedResolution r) (isTyped t) (amount-by (allowedResolution r && isTyped t) _ e)
+preset-of r t e =
+    let tests = amount-by (allowedResolution r && isTyped t) _ e in
+    record {
+      allowed = both-left (allowedResolution r) (isTyped t) tests;
+      typed = both-right (allowedResolution r) (isTyped t) tests;
+      amount = amount-is (presetMicrograms r (decimalsIn t) (valueIn t)) (rw tests at e);
+    }
 
 -- typing the decimal that a number was rounded to gives its amount again
 pub preset-read-again : {m : Tare} (r : Resolution) (t : List ℕ) → readPreset r t ≡ Amount m →
@@ -95,6 +115,5 @@ pub preset-read-again : {m : Tare} (r : Resolution) (t : List ℕ) → readPrese
     → readPreset r (afterSpaces (fieldOf (r .decimals) (pos n))) ≡ Amount m
 unfolding readPreset
 preset-read-again r t e back =
-    let tests = amount-by (allowedResolution r && isTyped t) _ e in
-    let allowed = both-left (allowedResolution r) (isTyped t) tests in
-    rw (allowed, back .is, back .places, back .number, preset-again r (decimalsIn t) (valueIn t) allowed) (rw tests at e)
+    let of = preset-of r t e in
+    rw (of .allowed, back .is, back .places, back .number, preset-again r (decimalsIn t) (valueIn t) (of .allowed)) (rw (of .allowed, of .typed) at e)

@@ -5,6 +5,7 @@ mod AnswersRead
 mod Delivering
 pub mod Demand3
 mod DueWeights
+mod EachCall
 pub mod EndToEnd
 mod Following
 mod HostReads

@@ -1,7 +1,6 @@
 -- A typed tare over a list of calls: its answer has the characters of the rounded decimal; and typing them sets it again.
 -- Assumes nothing.
 use mathlib.Core.Path.{_≡_, refl, ap, _∙_}
-use mathlib.Core.Bool.{true}
 use mathlib.Core.List.{List, _++_}
 use Prim.Native.Nat.{ℕ}
 use lib.IntN.{pos}
@@ -9,9 +8,6 @@ use Rattle.commands.specs.Reactions.{situationOf}
 use Rattle.device.specs.Calls.{answerBytes}
 use Rattle.line.proofs.PresetLines.{preset-judged}
 use Rattle.line.proofs.Verdicts.{parameterIn, preset-line}
-use Rattle.model.specs.declared.profile.Profile.{Profile}
-use Rattle.model.specs.declared.state.State.{State}
-use Rattle.model.specs.Profiles.{profileAllowed}
 use Rattle.text.specs.Ascii.{ascii}
 use Rattle.text.specs.Field.{fieldOf}
 use Rattle.text.specs.Reading.{afterSpaces, decimalsIn, valueIn}
@@ -21,33 +17,16 @@ use Rattle.text.proofs.ReadBack.{typed-back}
 use Rattle.text.proofs.TypedText.{preset-read-again}
 use Rattle.weighing.specs.Weighings.{tareAnswer}
 use Rattle.weight.specs.Presets.{presetPlaces}
-use Rattle.history.specs.Tally.{Event, Tally, startTally, afterEvent, tenOf}
-use Rattle.history.specs.TypedTares.{shownAsTyped, TypedShown, TypedAgain}
+use Rattle.history.specs.Tally.{tenOf}
+use Rattle.history.specs.TypedTares.{eventShows, shownAsTyped, TypedShown, TypedAgain}
 use Rattle.history.proofs.DueWeights.{tare-printable}
+use Rattle.history.proofs.EachCall.{each-call}
 use Rattle.history.proofs.TypedLines.{typed-as}
 use Rattle.history.proofs.WeightLines.{field-fits, told-shows}
-use Rattle.history.proofs.Along.{Followed, Step, over-calls}
-use Rattle.history.proofs.Stepping.{FollowsState, start-followed, Stepped, byte-stepped, sample-stepped}
-
--- ---- the answer
-
-stepped : (p : Profile) (t : Tally) (e : Event) (s : State) → Stepped p t e s → Followed Tally (FollowsState p) (shownAsTyped p) s t e
-unfolding shownAsTyped
-stepped p t e s h = record { next = afterEvent p t e; kept = h .follows; joins = λ es g. rw (h .shown) g }
-
-step : (p : Profile) → profileAllowed p ≡ true → Step p Tally (FollowsState p) (shownAsTyped p)
-unfolding shownAsTyped
-step p profile =
-    record {
-      ends = λ t. refl;
-      byte = λ s t b bad room r buffer kept call. stepped p t _ _ (byte-stepped p profile s t kept b bad room r buffer call);
-      sample = λ s t z stable room r buffer kept call. stepped p t _ _ (sample-stepped p profile s t kept z stable room r buffer call);
-    }
 
 pub typed-shown : TypedShown
-typed-shown = over-calls {X = Tally} {Inv = FollowsState} {accepted = shownAsTyped} step startTally start-followed
-
--- ---- typed again
+unfolding shownAsTyped
+typed-shown = each-call shownAsTyped eventShows (λ p t. refl) (λ p t e es h k. rw h k) (λ p t e s h. h .shown)
 
 pub typed-again : TypedAgain
 typed-again p s s′ f f′ m allowed judged bytes good free =

@@ -7,4 +7,5 @@ pub mod Proper
 mod Rows
 pub mod Running
 mod Scanning
+pub mod TypedCases
 pub mod Verdicts

@@ -15,7 +15,7 @@ use Rattle.weight.specs.Amounts.{typedMicrograms, typedFemtograms}
 use Rattle.weight.proofs.Allowed.{allowed-decimals, allowed-divisor-positive, power-positive}
 use Rattle.weight.proofs.HalfUp.{half-up-not-over, half-up-near, half-up-only, half-up-scaled}
 use Rattle.weight.proofs.Monotone.{naturalPlaces, places-of-pos, places-of-negsuc, times-odd}
-use Rattle.weight.proofs.Nearness.{near-naturals, near-negated, near-triangle, near-shift, difference-times}
+use Rattle.weight.proofs.Nearness.{near-naturals, near-negated, difference-times}
 use Rattle.weight.proofs.Range.{size-product}
 
 -- ---- the printed number
@@ -123,45 +123,8 @@ rounded-exact z =
     rw (size-product z 1_000_000_000)
     (half-up-only (natAbs z * 1_000_000_000) 1_000_000_000 (natAbs z) (omega arith) (omega arith) (omega arith))
 
--- ---- a stored tare that is half a microgram off
-
 -- femtograms of a difference
 pub exact-difference
     : (a b : ℤ) → exactFemtograms (a -ℤ b) ≡ exactFemtograms a -ℤ exactFemtograms b
 unfolding exactFemtograms
 exact-difference a b = difference-times a b 1_000_000_000
-
--- the printed net is off by that half microgram more
-pub typed-net-near
-    : (r : Resolution) (gross tare exact : ℤ)
-    → allowedResolution r ≡ true
-    → Near 1_000_000_000 (exactFemtograms tare) exact
-    → Near
-    (stepFemtograms r + 1_000_000_000)
-    (printedFemtograms r (placesOf r (gross -ℤ tare)))
-    (exactFemtograms gross -ℤ exact)
-typed-net-near r gross tare exact h off =
-    near-triangle
-    (stepFemtograms r)
-    1_000_000_000
-    (printedFemtograms r (placesOf r (gross -ℤ tare)))
-    (exactFemtograms (gross -ℤ tare))
-    (exactFemtograms gross -ℤ exact)
-    (half-step r (gross -ℤ tare) h)
-    (rw (exact-difference gross tare) (near-shift 1_000_000_000 (exactFemtograms gross) (exactFemtograms tare) exact off))
-
--- and so is the printed tare
-pub typed-tare-near
-    : (r : Resolution) (tare exact : ℤ)
-    → allowedResolution r ≡ true
-    → Near 1_000_000_000 (exactFemtograms tare) exact
-    → Near (stepFemtograms r + 1_000_000_000) (printedFemtograms r (placesOf r tare)) exact
-typed-tare-near r tare exact h off =
-    near-triangle
-    (stepFemtograms r)
-    1_000_000_000
-    (printedFemtograms r (placesOf r tare))
-    (exactFemtograms tare)
-    exact
-    (half-step r tare h)
-    off

@@ -1,13 +1,14 @@
 -- `device::bytes::take_lines` meets its contract. The loop's invariant: what was taken so far, and what is to come, is what all of the
 -- bytes give.
 -- Assumes nothing.
-use Prim.Native.Nat.{_+_, _-_, _≤_}
+use Prim.Native.Nat.{ℕ, _+_, _-_, _≤_}
 use mathlib.Core.Path.{_≡_, refl}
 use mathlib.Core.Bool.{true, false}
 use borrow.Author.Needs.{needs}
 use borrow.Author.Tests.{not-true, not-false}
 use native.Mathlib.Omega.{arith}
 use native.Mathlib.Nat.{add-zero, add-assoc}
+use mathlib.Core.List.{List}
 use lib.ListN.{length}
 use Rattle.line.specs.Receiving.{lineLimit}
 use Rattle.line.specs.Runs.{markedBytes}
@@ -105,70 +106,79 @@ emit-due-requires c κs = c .before .before .before .before .before .before .bef
 taken-bytes-requires-2 : tie.Need-taken-bytes-requires-2 Inv-loop μ-loop
 taken-bytes-requires-2 c κs = search needs
 
-same-length-2 : tie.Need-same-length-2 Inv-loop μ-loop
-same-length-2 c =
+-- the turn of a line whose answer does not fit
+abbrev stopped-turn : (c : tie.After-taken-bytes2 Inv-loop μ-loop) →
     let run = c .before .before .before .before .before .before .before .before .before .before .before .before in
     let at = run .before .before .before .before .before .loop in
     let start = run .before .before .before .before .before .before .before .before .before in
-    let bs = start .args .bytes .now in
-    let ks = start .args .marks .now in
-    let equal = start .pre .1 .1 in
     let got = run .receive-run .result in
-    let t : State = withLine (at .state) (got .line) in
-    let now : Turn = turnOf (at .state) (at .count) (at .at) false in
-    let h =
-    next-turn _ _ bs ks _ equal now (turnOf t 0 (got .taken) true) (at .out) _ (at .inv .0) refl (at .inv .3)
-    (line-stops _ (start .pre .0) (at .state) (at .inv .3 .allowed) (at .inv .2) _ _ (run .receive-run .ensures) refl (not-false _ (c .before .before .before .before .before .before .before .before .if1 .left)) (c .before .before .before .before .before .before .before .line-reaction .ensures) (c .before .before .before .before .before .emit-due .ensures .0) (c .before .before .before .before .before .emit-due .ensures .1) (not-true _ (c .before .if2 .taken)) refl) in
-    search (needs, h .0 .long)
+    (buffer : List ℕ)
+    × TakenSoFar (start .args .profile) (start .args .given) (markedBytes (start .args .bytes .now) (start .args .marks .now)) (start .args .out .now)
+    (turnOf (withLine (at .state) (got .line)) (at .count + 0) (at .at + got .taken) true) buffer
+stopped-turn c =
+    let run = c .before .before .before .before .before .before .before .before .before .before .before .before in
+    let at = run .before .before .before .before .before .loop in
+    let start = run .before .before .before .before .before .before .before .before .before in
+    let got = run .receive-run .result in
+    let now : Turn = turnOf (at .state) (at .count) (at .at) false in (
+      _,
+      next-turn _ _ (start .args .bytes .now) (start .args .marks .now) _ (start .pre .1 .1) now (turnOf (withLine (at .state) (got .line)) 0 (got .taken) true) (at .out) _ (at .inv .0) refl (at .inv .3)
+          (line-stops _ (start .pre .0) (at .state) (at .inv .3 .allowed) (at .inv .2) _ _ (run .receive-run .ensures) refl (not-false _ (c .before .before .before .before .before .before .before .before .if1 .left))
+          (c .before .before .before .before .before .before .before .line-reaction .ensures) (c .before .before .before .before .before .emit-due .ensures .0) (c .before .before .before .before .before .emit-due .ensures .1) (not-true _ (c .before .if2 .taken)) refl)
+          .0,
+    )
+
+same-length-2 : tie.Need-same-length-2 Inv-loop μ-loop
+same-length-2 c = search (needs, stopped-turn c .1 .long)
 
 returns-2 : tie.Need-returns-2 Inv-loop μ-loop
 returns-2 c =
     let run = c .before .before .before .before .before .before .before .before .before .before .before .before in
     let at = run .before .before .before .before .before .loop in
     let start = run .before .before .before .before .before .before .before .before .before in
-    let bs = start .args .bytes .now in
-    let ks = start .args .marks .now in
-    let equal = start .pre .1 .1 in
     let got = run .receive-run .result in
-    let t : State = withLine (at .state) (got .line) in
+    taken-gives
+    (rw (add-zero (at .count)) at (stopped-there _ _ (start .args .bytes .now) (start .args .marks .now) _ (start .pre .1 .1)
+    (turnOf (withLine (at .state) (got .line)) (at .count + 0) (at .at + got .taken) true) _ refl (stopped-turn c .1)))
+    (c .taken-bytes2 .ensures)
+
+-- the turn of a line whose answer fits
+abbrev answered-turn : (c : tie.After-struct-known4 Inv-loop μ-loop) →
+    let run = c .before .before .before .before .before .before .before .before .before .before .before .before .before in
+    let at = run .before .before .before .before .before .loop in
+    let start = run .before .before .before .before .before .before .before .before .before in
+    (buffer : List ℕ)
+    × TakenSoFar (start .args .profile) (start .args .given) (markedBytes (start .args .bytes .now) (start .args .marks .now)) (start .args .out .now)
+    (turnOf (c .before .before .before .before .before .before .before .before .line-reaction .result .state) (at .count + c .before .before .before .before .before .before .emit-due .result .count) (at .at + (run .receive-run .result .taken + 1)) false) buffer
+answered-turn c =
+    let run = c .before .before .before .before .before .before .before .before .before .before .before .before .before in
+    let at = run .before .before .before .before .before .loop in
+    let start = run .before .before .before .before .before .before .before .before .before in
     let now : Turn = turnOf (at .state) (at .count) (at .at) false in
-    let h =
-    next-turn _ _ bs ks _ equal now (turnOf t 0 (got .taken) true) (at .out) _ (at .inv .0) refl (at .inv .3)
-    (line-stops _ (start .pre .0) (at .state) (at .inv .3 .allowed) (at .inv .2) _ _ (run .receive-run .ensures) refl (not-false _ (c .before .before .before .before .before .before .before .before .if1 .left)) (c .before .before .before .before .before .before .before .line-reaction .ensures) (c .before .before .before .before .before .emit-due .ensures .0) (c .before .before .before .before .before .emit-due .ensures .1) (not-true _ (c .before .if2 .taken)) refl) in
-    taken-gives (rw (add-zero (at .count)) at (stopped-there _ _ bs ks _ equal (turnOf t (at .count + 0) (at .at + got .taken) true) _ refl (h .0))) (c .taken-bytes2 .ensures)
+    let next : Turn = turnOf (c .before .before .before .before .before .before .before .before .line-reaction .result .state) (c .before .before .before .before .before .before .emit-due .result .count) (run .receive-run .result .taken + 1) false in (
+      _,
+      next-turn _ _ (start .args .bytes .now) (start .args .marks .now) _ (start .pre .1 .1) now next (at .out) _ (at .inv .0) refl (at .inv .3)
+          (line-answered _ (start .pre .0) (at .state) (at .inv .3 .allowed) (at .inv .2) _ _ (run .receive-run .ensures) refl (not-false _ (c .before .before .before .before .before .before .before .before .before .if1 .left))
+          (c .before .before .before .before .before .before .before .before .line-reaction .ensures) (c .before .before .before .before .before .before .emit-due .ensures .0) (c .before .before .before .before .before .before .emit-due .ensures .1) (not-false _ (c .before .before .if2 .left)) refl)
+          .0,
+    )
 
 add-count : tie.Need-add-count Inv-loop μ-loop
 add-count c =
+    let start = c .before .before .before .before .before .before .before .before .before .before .before .before .before .before .before .before .before .before .before .before .before .before in
+    let turn = answered-turn c .1 in
+    record { fits = omega (arith, turn .written, turn .long, start .good .1 .1 .1 .1 .0) }
+
+-- no more bytes were taken than there are
+taken-at : (c : tie.After-struct-known4 Inv-loop μ-loop) →
     let run = c .before .before .before .before .before .before .before .before .before .before .before .before .before in
-    let at = run .before .before .before .before .before .loop in
-    let start = run .before .before .before .before .before .before .before .before .before in
-    let bs = start .args .bytes .now in
-    let ks = start .args .marks .now in
-    let equal = start .pre .1 .1 in
-    let got = run .receive-run .result in
-    let t : State = withLine (at .state) (got .line) in
-    let now : Turn = turnOf (at .state) (at .count) (at .at) false in
-    let h =
-    next-turn _ _ bs ks _ equal now (turnOf (c .before .before .before .before .before .before .before .before .line-reaction .result .state) (c .before .before .before .before .before .before .emit-due .result .count) (got .taken + 1) false) (at .out) _ (at .inv .0) refl (at .inv .3)
-    (line-answered _ (start .pre .0) (at .state) (at .inv .3 .allowed) (at .inv .2) _ _ (run .receive-run .ensures) refl (not-false _ (c .before .before .before .before .before .before .before .before .before .if1 .left)) (c .before .before .before .before .before .before .before .before .line-reaction .ensures) (c .before .before .before .before .before .before .emit-due .ensures .0) (c .before .before .before .before .before .before .emit-due .ensures .1) (not-false _ (c .before .before .if2 .left)) refl) in
-    record { fits = omega (arith, h .0 .written, h .0 .long, start .good .1 .1 .1 .1 .0) }
+    run .before .before .before .before .before .loop .at + (run .receive-run .result .taken + 1) ≤ length (run .before .before .before .before .before .before .before .before .before .args .bytes .now)
+taken-at c =
+    let start = c .before .before .before .before .before .before .before .before .before .before .before .before .before .before .before .before .before .before .before .before .before .before in
+    omega (arith, answered-turn c .1 .within, fewer-bytes (start .args .bytes .now) (start .args .marks .now) (omega (arith, start .pre .1 .1)))
 
 add-at-2 : tie.Need-add-at-2 Inv-loop μ-loop
-add-at-2 c =
-    let run = c .before .before .before .before .before .before .before .before .before .before .before .before .before in
-    let at = run .before .before .before .before .before .loop in
-    let start = run .before .before .before .before .before .before .before .before .before in
-    let bs = start .args .bytes .now in
-    let ks = start .args .marks .now in
-    let equal = start .pre .1 .1 in
-    let got = run .receive-run .result in
-    let t : State = withLine (at .state) (got .line) in
-    let now : Turn = turnOf (at .state) (at .count) (at .at) false in
-    let h =
-    next-turn _ _ bs ks _ equal now (turnOf (c .before .before .before .before .before .before .before .before .line-reaction .result .state) (c .before .before .before .before .before .before .emit-due .result .count) (got .taken + 1) false) (at .out) _ (at .inv .0) refl (at .inv .3)
-    (line-answered _ (start .pre .0) (at .state) (at .inv .3 .allowed) (at .inv .2) _ _ (run .receive-run .ensures) refl (not-false _ (c .before .before .before .before .before .before .before .before .before .if1 .left)) (c .before .before .before .before .before .before .before .before .line-reaction .ensures) (c .before .before .before .before .before .before .emit-due .ensures .0) (c .before .before .before .before .before .before .emit-due .ensures .1) (not-false _ (c .before .before .if2 .left)) refl) in
-    let counted = fewer-bytes bs ks (omega (arith, equal)) in
-    record { fits = omega (arith, h .0 .within, counted, start .good .1 .1 .0) }
+add-at-2 c = record { fits = omega (arith, taken-at c, c .before .before .before .before .before .before .before .before .before .before .before .before .before .before .before .before .before .before .before .before .before .before .good .1 .1 .0) }
 
 loop-less : tie.Need-loop-less Inv-loop μ-loop
 loop-less c = omega (arith, c .before .before .before .before .before .before .before .before .before .before .before .before .before .before .before .before .before .loop-test .taken)
@@ -178,20 +188,12 @@ loop-again c =
     let run = c .before .before .before .before .before .before .before .before .before .before .before .before .before in
     let at = run .before .before .before .before .before .loop in
     let start = run .before .before .before .before .before .before .before .before .before in
-    let bs = start .args .bytes .now in
-    let ks = start .args .marks .now in
-    let equal = start .pre .1 .1 in
-    let got = run .receive-run .result in
-    let t : State = withLine (at .state) (got .line) in
-    let now : Turn = turnOf (at .state) (at .count) (at .at) false in
-    let h =
-    next-turn _ _ bs ks _ equal now (turnOf (c .before .before .before .before .before .before .before .before .line-reaction .result .state) (c .before .before .before .before .before .before .emit-due .result .count) (got .taken + 1) false) (at .out) _ (at .inv .0) refl (at .inv .3)
-    (line-answered _ (start .pre .0) (at .state) (at .inv .3 .allowed) (at .inv .2) _ _ (run .receive-run .ensures) refl (not-false _ (c .before .before .before .before .before .before .before .before .before .if1 .left)) (c .before .before .before .before .before .before .before .before .line-reaction .ensures) (c .before .before .before .before .before .before .emit-due .ensures .0) (c .before .before .before .before .before .before .emit-due .ensures .1) (not-false _ (c .before .before .if2 .left)) refl) in
-    let counted = fewer-bytes bs ks (omega (arith, equal)) in (
-      omega (arith, h .0 .within, counted),
-      h .0 .written,
-      after-cells _ (start .pre .0) (at .state) (at .inv .3 .allowed) (at .inv .2) _ _ (run .receive-run .ensures) refl (not-false _ (c .before .before .before .before .before .before .before .before .before .if1 .left)) (c .before .before .before .before .before .before .before .before .line-reaction .ensures) (c .before .before .before .before .before .before .emit-due .ensures .0) (c .before .before .before .before .before .before .emit-due .ensures .1),
-      rw (add-assoc (at .at) (got .taken) 1) (h .0),
+    let turn = answered-turn c .1 in (
+      omega (arith, taken-at c),
+      turn .written,
+      after-cells _ (start .pre .0) (at .state) (at .inv .3 .allowed) (at .inv .2) _ _ (run .receive-run .ensures) refl (not-false _ (c .before .before .before .before .before .before .before .before .before .if1 .left))
+          (c .before .before .before .before .before .before .before .before .line-reaction .ensures) (c .before .before .before .before .before .before .emit-due .ensures .0) (c .before .before .before .before .before .before .emit-due .ensures .1),
+      rw (add-assoc (at .at) (run .receive-run .result .taken) 1) turn,
     )
 
 taken-bytes-requires-3 : tie.Need-taken-bytes-requires-3 Inv-loop μ-loop

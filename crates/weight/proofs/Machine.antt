@@ -1,14 +1,14 @@
 -- Signed machine operations as integers: what an operation asks of its operands and what it gives.
 -- Assumes nothing.
-use mathlib.Core.Path.{_≡_, refl, sym, subst, _∙_}
+use mathlib.Core.Path.{_≡_, refl, sym, ap, subst, _∙_}
 use mathlib.Core.Bool.{true, false, not}
-use Prim.Native.Nat.{ℕ, zero, suc, _+_, _/_, _^_, _≤_, _<_, zero-le}
-use native.Mathlib.Nat.{div-le-self, lt-of-le-of-lt, le-of-suc-le-suc}
+use Prim.Native.Nat.{ℕ, zero, suc, _+_, _*_, _/_, _%_, _^_, _≤_, _<_, zero-le}
+use native.Mathlib.Nat.{div-le-self, div-add-mod', div-mul-le-self, lt-of-le-of-lt, le-of-suc-le-suc, zero-mul}
 use native.Mathlib.Omega.{arith}
 use native.Mathlib.Numerals.{add-one}
 use borrow.Author.Tests.{le-ltb, not-false}
 use lib.Dec.{T}
-use lib.IntN.{ℤ, pos, negsuc, negℤ, natAbs, _+ℤ_, _-ℤ_, sucℤ, +ℤ-idl, +ℤ-one}
+use lib.IntN.{ℤ, pos, negsuc, negℤ, natAbs, _+ℤ_, _-ℤ_, _*ℤ_, sucℤ, +ℤ-idl, +ℤ-one, +ℤ-negℤ-cancel, negℤ-+ℤ}
 use lib.Signed.{mag, nonNeg, quotZ, remZ, ltZ, mag-rem}
 use mir.Syntax.{w64}
 use mir.Val.{Fits, SFits, toZ, ofZ}
@@ -30,15 +30,57 @@ quotient-fits {n} d f = record { sfits = lt-of-le-of-lt (quotient-within n d) (f
 rest-fits : {n : ℤ} (d : ℕ) → SFits w64 n → SFits w64 (remZ n (pos d))
 rest-fits {n} d f = record { sfits = lt-of-le-of-lt (mag-rem n (pos d)) (f .sfits) }
 
+-- a minus goes through a product
+opposite-times : (q d : ℕ) → negℤ (pos q) *ℤ pos d ≡ negℤ (pos (q * d))
+opposite-times zero d = rw (zero-mul d)
+opposite-times (suc q) d = refl
+
+-- the product of quotient and divisor is no larger than what is divided
+product-within : (n : ℤ) (d : ℕ) → mag (quotZ n (pos d) *ℤ pos d) ≤ mag n
+product-within (pos a) d = div-mul-le-self a d
+product-within (negsuc a) d = rw (opposite-times (suc a / d) d) (neg-within (suc a / d * d) (div-mul-le-self (suc a) d))
+
+product-fits : {n : ℤ} (d : ℕ) → SFits w64 n → SFits w64 (quotZ n (pos d) *ℤ pos d)
+product-fits {n} d f = record { sfits = lt-of-le-of-lt (product-within n d) (f .sfits) }
+
+-- and what it leaves is the rest
+size-leaves : (m d : ℕ) → pos m -ℤ pos (m / d * d) ≡ pos (m % d)
+size-leaves m d = ap (λ (k : ℕ). pos k -ℤ pos (m / d * d)) (omega (arith, div-add-mod' m d)) ∙ +ℤ-negℤ-cancel (pos (m % d)) (pos (m / d * d))
+
+product-leaves : (n : ℤ) (d : ℕ) → n -ℤ quotZ n (pos d) *ℤ pos d ≡ remZ n (pos d)
+product-leaves (pos a) d = size-leaves a d
+product-leaves (negsuc a) d =
+    rw (opposite-times (suc a / d) d)
+    (sym (negℤ-+ℤ (pos (suc a)) (negℤ (pos (suc a / d * d)))) ∙ ap negℤ (size-leaves (suc a) d))
+
+-- the operations in machine words
 module _ (n : ℤ) (d : ℕ) (f : SFits w64 n) (g : SFits w64 (pos d)) where
+  abbrev quotient : ℤ
+  quotient = toZ w64 (ofZ w64 (quotZ (toZ w64 (ofZ w64 n)) (toZ w64 d)))
+
+  abbrev product : ℤ
+  product = toZ w64 (ofZ w64 (quotient *ℤ toZ w64 d))
+
   pub divide-asks : SFits w64 (quotZ (toZ w64 (ofZ w64 n)) (toZ w64 d))
   divide-asks = rw (toZ-ofZ f, toZ-pos w64 (g .sfits)) (quotient-fits d f)
 
-  pub divide-gives : toZ w64 (ofZ w64 (quotZ (toZ w64 (ofZ w64 n)) (toZ w64 d))) ≡ quotZ n (pos d)
+  pub divide-gives : quotient ≡ quotZ n (pos d)
   divide-gives = rw (toZ-ofZ f, toZ-pos w64 (g .sfits)) (toZ-ofZ (quotient-fits d f))
 
-  pub rest-gives : toZ w64 (ofZ w64 (remZ (toZ w64 (ofZ w64 n)) (toZ w64 d))) ≡ remZ n (pos d)
-  rest-gives = rw (toZ-ofZ f, toZ-pos w64 (g .sfits)) (toZ-ofZ (rest-fits d f))
+  pub product-asks : SFits w64 (quotient *ℤ toZ w64 d)
+  product-asks = rw (divide-gives, toZ-pos w64 (g .sfits)) (product-fits d f)
+
+  product-gives : product ≡ quotZ n (pos d) *ℤ pos d
+  product-gives = rw (divide-gives, toZ-pos w64 (g .sfits)) (toZ-ofZ (product-fits d f))
+
+  leaves : toZ w64 (ofZ w64 n) -ℤ product ≡ remZ n (pos d)
+  leaves = rw (product-gives, toZ-ofZ f) (product-leaves n d)
+
+  pub rest-asks : SFits w64 (toZ w64 (ofZ w64 n) -ℤ product)
+  rest-asks = rw leaves (rest-fits d f)
+
+  pub rest-gives : toZ w64 (ofZ w64 (toZ w64 (ofZ w64 n) -ℤ product)) ≡ remZ n (pos d)
+  rest-gives = rw leaves (toZ-ofZ (rest-fits d f))
 
 -- the opposite of a natural number
 pub opposite-fits : (n : ℕ) → n < 2 ^ 63 → SFits w64 (negℤ (pos n))

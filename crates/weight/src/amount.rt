@@ -35,7 +35,8 @@ fn most_places(unit: WeightUnit) -> u64
     }
 }
 
-// value / by to the nearest whole number, a tie upwards: a typed number has no sign, so one unsigned division does.
+// value / by to the nearest whole number, a tie upwards: a typed number has no sign, so one unsigned division does. The remainder is what
+// the product leaves.
 pub fn half_up(value: u64, by: u64) -> u64
     requires { ⌜ 0 < by ⌝ }
     requires { ⌜ by < 2 ^ 62 ⌝ }
@@ -43,7 +44,7 @@ pub fn half_up(value: u64, by: u64) -> u64
     ensures { λ r. ⌜ r ≡ halfUp value by ⌝ }
 {
     let quotient = value / by;
-    let rest = value % by;
+    let rest = value - quotient * by;
     if by <= rest + rest {
         return quotient + 1;
     }

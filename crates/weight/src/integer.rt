@@ -9,12 +9,13 @@ ghost use mir.Val.{SFits};
 
 pub struct Integer(pub i64);
 
-// The two results of one signed division, rounded towards zero.
+// What one signed division gives, rounded towards zero, and what it leaves.
 pub struct Divided {
     pub quotient: Integer,
     pub rest: Integer,
 }
 
+// One division: the remainder is what the product leaves, so that no compiler divides again for it.
 pub fn divide(x: Integer, by: u64) -> Divided
     requires { ⌜ 0 < by ⌝ }
     requires { ⌜ SFits w64 (pos by) ⌝ }
@@ -23,9 +24,11 @@ pub fn divide(x: Integer, by: u64) -> Divided
 {
     let n = x.0;
     let d = by as i64;
+    let quotient = n / d;
+    let product = quotient * d;
     Divided {
-        quotient: Integer(n / d),
-        rest: Integer(n % d),
+        quotient: Integer(quotient),
+        rest: Integer(n - product),
     }
 }
 

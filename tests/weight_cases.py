@@ -412,9 +412,10 @@ def preset_second_tie_cases():
 
 def written_cases():
     for decimals in range(MOST_DECIMALS + 2):
-        one = 10**decimals
-        for size in (0, 1, 9, 10, one - 1, one, 10**8 - 1, 10**8, 10**9 - 1, 10**9):
-            written(decimals, size)
+        written(decimals, 0)
+        for power in range(1, 10):
+            written(decimals, 10**power - 1)
+            written(decimals, 10**power)
     for decimals, size in [
         (0, 10**10 - 1),
         (0, 10**10),
@@ -423,6 +424,10 @@ def written_cases():
         (6, 2**63),
         (4, 142_560),
         (4, 1_234_567_890),
+        (0, 1_000_000_001),
+        (0, 9_000_000_000),
+        (0, 9_080_706_054),
+        (6, 908_070_605),
         (255, 1),
     ]:
         written(decimals, size)

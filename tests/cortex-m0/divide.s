@@ -12,6 +12,8 @@
     .endm
 
     routine __aeabi_uldivmod
+    .thumb_func
+divided:                    @ for the one with signs: count.s counts calls by the routine's name
     cmp r0, r2
     mov r12, r1
     sbcs r1, r3
@@ -130,7 +132,7 @@ last_byte:
     asrs r5, r3, #31
     signed r0, r1, r4
     signed r2, r3, r5
-    bl __aeabi_uldivmod
+    bl divided
     eors r5, r4
     signed r0, r1, r5
     signed r2, r3, r4

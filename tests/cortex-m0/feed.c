@@ -10,12 +10,13 @@ wide proved_buffers(const byte *profiles, length, const byte *calls, length, con
                     length);
 wide proved_lines(const byte *lines, length, wide *values);
 wide proved_rewritten(const byte *lines, length, byte *out, length);
+wide proved_fields(const byte *numbers, length);
 
-enum { CALLS = 1, LINES = 2, REWRITTEN = 4, ANSWERS = 8, BUFFERS = 16 };
+enum { CALLS = 1, LINES = 2, REWRITTEN = 4, ANSWERS = 8, BUFFERS = 16, FIELDS = 32, DIVISIONS = 64 };
 
-/* What is asked for, and the sizes of the six parts that follow. */
+/* What is asked for, and the sizes of the seven parts that follow. */
 extern const struct input {
-    word what, profiles, calls, lines, script, bytes, marks;
+    word what, profiles, calls, lines, script, bytes, marks, numbers;
     byte parts[];
 } input;
 
@@ -32,6 +33,8 @@ static const byte *script(void) { return lines() + input.lines; }
 static const byte *bytes(void) { return script() + input.script; }
 
 static const byte *marks(void) { return bytes() + input.bytes; }
+
+static const byte *numbers(void) { return marks() + input.marks; }
 
 /* Of the first calls. */
 static wide sum_of_calls(word size) { return proved_calls(input.parts, input.profiles, calls(), size, out, sizeof out); }
@@ -97,6 +100,27 @@ static void tell_buffers(void) {
     tell("buffers", sum);
 }
 
+static void tell_fields(void) {
+    word then = timer_now();
+    wide sum = proved_fields(numbers(), input.numbers);
+    tell("ticks", ticks_since(then));
+    tell("fields", sum);
+}
+
+/* How often the division routine was called, in the program where count.s counts it. */
+word divisions;
+
+/* The divisions of each call: those of the calls up to it, less those of the calls before it. */
+static void tell_divisions(void) {
+    word before = 0;
+    for (word size = CALL; size <= input.calls; size += CALL) {
+        divisions = 0;
+        sum_of_calls(size);
+        tell("divisions", divisions - before);
+        before = divisions;
+    }
+}
+
 int work(void) {
     word then = timer_now();
     spin(2000000);
@@ -106,6 +130,8 @@ int work(void) {
     if (input.what & LINES) tell_lines();
     if (input.what & REWRITTEN) tell_rewritten();
     if (input.what & BUFFERS) tell_buffers();
+    if (input.what & FIELDS) tell_fields();
+    if (input.what & DIVISIONS) tell_divisions();
     tell("stack", stack_used());
     return 0;
 }

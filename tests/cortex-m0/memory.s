@@ -4,6 +4,7 @@
     .cpu cortex-m0
     .thumb
     .section .text.memory, "ax"
+    .balign 4
 
     .macro routine names:vararg
     .irp name, \names

@@ -5,6 +5,7 @@
     .thumb
 
     .section .text.__aeabi_lmul, "ax"
+    .balign 4
     .global __aeabi_lmul
     .thumb_func
 __aeabi_lmul:

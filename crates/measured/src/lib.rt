@@ -7,7 +7,7 @@ mod profile;
 mod record;
 mod sums;
 
-// For the loop of `measured_buffers`, which has whole buffers too.
+// For the loops of `measured_buffers`, which has whole buffers too, and of `measured_fields`.
 pub use calls::Order;
 pub use calls::PROFILE;
 pub use calls::RECORD;
@@ -19,6 +19,7 @@ pub use calls::with_call;
 pub use lines::proved_lines;
 pub use lines::proved_rewritten;
 pub use profile::profile_at;
+pub use record::joined;
 pub use sums::Sums;
 pub use sums::with_bytes;
 pub use sums::with_number;

@@ -1,97 +1,27 @@
--- Writing from the right to the left: a text that ends before a place of a buffer.
+-- A number that ends where a buffer ends.
 -- Assumes nothing.
 use mathlib.Core.Path.{_≡_, refl, sym, _∙_}
-use mathlib.Core.List.{List, [], _∷_, _++_, append-nil, append-assoc}
+use mathlib.Core.List.{List, [], _∷_, _++_, append-assoc}
 use Prim.Native.Nat.{ℕ, zero, suc, _+_, _-_, _/_, _%_, _^_, _≤_, _<_}
-use native.Mathlib.Nat.{add-zero, add-suc, div-one, div-div-eq-div-mul, pow-succ'}
+use native.Mathlib.Nat.{add-zero, sub-zero, div-one, mod-lt, mod-eq-of-lt, lt-of-lt-of-le, pow-le-pow-right}
 use native.Mathlib.Omega.{arith}
 use mathlib.Core.Bool.{Bool, true, false, not, false≢true}
 use lib.IntN.{ℤ, pos, negsuc, natAbs}
 use lib.Signed.{nonNeg}
-use lib.ListN.{length, take, drop, set, getD, length-append, take-append-drop}
-use lib.Seq.{set-split, drop-at, take-append-le, length-take-le, take-take, append-snoc, drop-length, take-suc, set-at}
+use lib.ListN.{length, take, drop, set, getD, length-append, length-set}
+use lib.Seq.{take-at, length-take-le, append-snoc, take-suc, set-at}
 use Rattle.weight.specs.Characters.{minus, point, digit}
 use Rattle.weight.specs.Places.{lastDigits, digitsOf, decimalOf, numberText, widthOf}
 use Rattle.weight.proofs.Width.{width-parts}
-use Rattle.weight.proofs.Digits.{digits-small, digits-step, length-digits-small, length-digits-step, length-last-digits}
-
--- the buffer d with the text s from a up to e
-unfoldable pub between : List ℕ → ℕ → List ℕ → ℕ → List ℕ
-between d a s e = take a d ++ s ++ drop e d
-
--- no text changes nothing
-pub between-none : (d : List ℕ) (a : ℕ) → between d a [] a ≡ d
-unfolding between
-between-none d a = simp append-nil (take-append-drop a d)
-
--- one byte
-pub between-byte : (d : List ℕ) (a b : ℕ) → a < length d → set d a b ≡ between d a (b ∷ []) (suc a)
-unfolding between
-between-byte d a b h = set-split d a b h ∙ sym (append-snoc (take a d) b (drop (suc a) d))
-
--- a text before the one that was written last
-pub between-between : (d : List ℕ) (a m e : ℕ) (s t : List ℕ) → a ≤ m → m ≤ length d
-    → between (between d m t e) a s m ≡ between d a (s ++ t) e
-unfolding between
-between-between d a m e s t h l =
-    rw (append-assoc (take m d) t (drop e d), take-append-le a (take m d) (t ++ drop e d) (omega (arith, long)), take-take a m d h, drop-at (take m d) (t ++ drop e d) m long)
-    (regroup (take a d) s t (drop e d))
-  where
-    long : length (take m d) ≡ m
-    long = length-take-le m d l
-
-    regroup : (p q r v : List ℕ) → p ++ q ++ (r ++ v) ≡ p ++ (q ++ r) ++ v
-    regroup p q r v = simp append-assoc
+use Rattle.weight.proofs.Digits.{length-last-digits, last-digits-cons}
+use Rattle.text.specs.declared.field.Nine.{Nine}
+use Rattle.text.specs.Digits.{Begun}
+use Rattle.text.specs.Field.{digitCount}
+use Rattle.text.proofs.Between.{between, between-byte, between-after, between-length, between-end}
+use Rattle.text.proofs.HighestFirst.{count-least, count-done, count-above, count-ten, last-of-rest, all-last}
 
 less-one : (k : ℕ) → suc k - 1 ≡ k
 less-one k = omega arith
-
--- a turn that writes the last of n digits, and what it leaves of the number
-pub last-turn : (d : List ℕ) (a n m b : ℕ) → 0 < n → a + n ≤ length d → b ≡ digit (m % 10)
-    → between d a (lastDigits n m) (a + n) ≡ between (set d (a + (n - 1)) b) a (lastDigits (n - 1) (m / 10)) (a + (n - 1))
-unfolding lastDigits
-last-turn d a (suc k) m b p h e =
-    rw (e, less-one k, add-suc a k, between-byte d (a + k) (digit (m % 10)) (omega arith))
-    (sym (between-between d a (a + k) (suc (a + k)) (lastDigits k (m / 10)) (digit (m % 10) ∷ []) (omega arith) (omega arith)))
-
-pub rest-turn : (n m : ℕ) → 0 < n → m / 10 / 10 ^ (n - 1) ≡ m / 10 ^ n
-rest-turn (suc k) m p = rw (less-one k, pow-succ' 10 k) (div-div-eq-div-mul m 10 (10 ^ k))
-
--- no digits left: the buffer holds what was to be written
-pub last-done : (d₀ d : List ℕ) (a e c v n m : ℕ) → between d₀ a (lastDigits c v) e ≡ between d a (lastDigits n m) (a + n) → n ≤ 0
-    → d ≡ take a d₀ ++ lastDigits c v ++ drop e d₀
-unfolding between lastDigits
-last-done d₀ d a e c v zero m i h = sym (i ∙ rw (add-zero a) (between-none d a))
-
-pub rest-done : (n m : ℕ) → n ≤ 0 → m / 10 ^ n ≡ m
-rest-done zero m h = div-one m
-
--- a turn that writes the last of all digits
-pub digits-turn : (d : List ℕ) (a e m b : ℕ) → 10 ≤ m → a + length (digitsOf m) ≡ e → e ≤ length d → b ≡ digit (m % 10)
-    → between d a (digitsOf m) e ≡ between (set d (e - 1) b) a (digitsOf (m / 10)) (e - 1)
-digits-turn d a zero m b t h l i = absurd (omega (arith, length-digits-step m t))
-digits-turn d a (suc e) m b t h l i =
-    rw (i, less-one e, digits-step m t, between-byte d e (digit (m % 10)) l)
-    (sym (between-between d a e (suc e) (digitsOf (m / 10)) (digit (m % 10) ∷ []) (omega (arith, length-digits-step m t)) (omega arith)))
-
--- the first digit: the buffer holds what was to be written
-pub digits-done : (d₀ d : List ℕ) (a e v e′ m b : ℕ) → between d₀ a (digitsOf v) e ≡ between d a (digitsOf m) e′
-    → m < 10 → a + length (digitsOf m) ≡ e′ → e′ ≤ length d → b ≡ digit m
-    → set d (e′ - 1) b ≡ take (e′ - 1) d₀ ++ digitsOf v ++ drop e d₀
-unfolding between
-digits-done d₀ d a e v e′ m b i t h l j =
-    let next : e′ ≡ suc a = omega (arith, length-digits-small m t) in
-    rw (j, next, less-one a) (between-byte d a (digit m) (omega arith) ∙ sym (rw (next, digits-small m t) at i))
-
--- what stands before a text stays
-long-before : (d : List ℕ) (a e : ℕ) (s : List ℕ) → a ≤ length d → a ≤ length (between d a s e)
-unfolding between
-long-before d a e s h = simp (length-append, length-take-le a d h) (omega arith)
-
--- a text up to the end of the buffer
-between-end : (d : List ℕ) (a : ℕ) (s : List ℕ) → between d a s (length d) ≡ take a d ++ s
-unfolding between
-between-end d a s = rw (drop-length d, append-nil)
 
 -- a number without decimals is its digits
 pub decimal-whole : (d m : ℕ) → d < 1 → decimalOf d m ≡ digitsOf m
@@ -107,49 +37,145 @@ decimal-parts (suc d) m h = refl
 pub length-decimal-parts : (d m : ℕ) → 1 ≤ d → length (decimalOf d m) ≡ length (digitsOf (m / 10 ^ d)) + suc d
 length-decimal-parts d m h = rw (decimal-parts d m h, length-append, length-last-digits d m)
 
--- the digits have room, the decimals have room, and the point too
-pub digits-room : (n d v : ℕ) → d < 1 → length (decimalOf d v) ≤ n → length (digitsOf v) ≤ n
-digits-room n d v h l = rw (decimal-whole d v h) at l
+-- ---- a number of c digits, d of them decimals
 
-pub decimals-room : (n d v : ℕ) → 1 ≤ d → length (decimalOf d v) ≤ n → d ≤ n
-decimals-room n d v h l = omega (arith, length-decimal-parts d v h)
+-- how long it is
+pub length-whole : (d m c : ℕ) → d < 1 → c ≡ digitCount d m → length (decimalOf d m) ≡ c
+unfolding decimalOf digitCount
+length-whole zero m c h e = sym (e ∙ rw (div-one m, add-zero (length (digitsOf m))))
+length-whole (suc d) m c h e = absurd (omega arith)
 
-pub point-room : (n d v : ℕ) → 1 ≤ d → length (decimalOf d v) ≤ n → 1 ≤ n - d
-point-room n d v h l = omega (arith, length-decimal-parts d v h)
+pub length-parts : (d m c : ℕ) → 1 ≤ d → c ≡ digitCount d m → length (decimalOf d m) ≡ c + 1
+unfolding digitCount
+length-parts d m c h e = omega (arith, length-decimal-parts d m h)
 
--- what is above the decimals has room before the point, and starts where the whole starts
-pub whole-room : (n d v w : ℕ) → 1 ≤ d → length (decimalOf d v) ≤ n → w ≡ v / 10 ^ d → length (digitsOf w) ≤ n - d - 1
-whole-room n d v w h l e = rw e (omega (arith, length-decimal-parts d v h))
+-- the digits above the decimals
+whole-count : (d m c : ℕ) → c ≡ digitCount d m → c - d ≡ length (digitsOf (m / 10 ^ d))
+unfolding digitCount
+whole-count d m c e = omega arith
 
-pub whole-starts : (n d v w r : ℕ) → 1 ≤ d → length (decimalOf d v) ≤ n → w ≡ v / 10 ^ d → r + length (digitsOf w) ≡ n - d - 1 → r + length (decimalOf d v) ≡ n
-whole-starts n d v w r h l e g = omega (arith, length-decimal-parts d v h, rw e at g)
+above : (d m c : ℕ) → c ≡ digitCount d m → lastDigits (c - d) (m / 10 ^ d) ≡ digitsOf (m / 10 ^ d)
+above d m c e = rw (whole-count d m c e) (all-last (m / 10 ^ d))
 
--- the buffer once the digits are written
-pub whole-done : (x y : List ℕ) (r d v : ℕ) → d < 1 → y ≡ take r x ++ digitsOf v ++ drop (length x) x → y ≡ take r x ++ decimalOf d v
+-- no more digits than characters
+pub count-within : (d m n : ℕ) → length (decimalOf d m) ≤ n → digitCount d m ≤ n
+count-within zero m n l = omega (arith, length-whole 0 m (digitCount 0 m) (omega arith) refl)
+count-within (suc d) m n l = omega (arith, length-parts (suc d) m (digitCount (suc d) m) (omega arith) refl)
+
+-- ---- nine digits and ten
+
+-- what is below 10 ^ 9 and fits ten characters has nine digits at most
+pub nine-count : (d m : ℕ) → m < 10 ^ 9 → length (decimalOf d m) ≤ 10 → digitCount d m ≤ 9
+nine-count zero m h l = count-done 0 9 m (10 ^ 9) (omega arith) refl h
+nine-count (suc d) m h l = omega (arith, length-parts (suc d) m (digitCount (suc d) m) (omega arith) refl)
+
+-- they are all in 32 bits
+pub begun-nine : (x : List ℕ) (d m c s : ℕ) → length (decimalOf d m) ≤ 10 → m < 10 ^ 9 → c ≡ digitCount d m
+    → s + length (decimalOf d m) ≡ length x
+    → Begun x d m x (record { start = s; at = s; high = c; value = m })
+begun-nine x d m c s l h e f =
+    record {
+      start = f;
+      long = refl;
+      few = omega (arith, nine-count d m h l);
+      some = omega (arith, count-least d m);
+      small = count-above d m c e;
+      up-to = omega (arith, whole-count d m c e);
+      whole = rw (above d m c e);
+      after = refl;
+      decimals = refl;
+    }
+
+-- what fits is below 10 ^ 10
+pub ten-small : (d m : ℕ) → length (decimalOf d m) ≤ 10 → m < 10 ^ 10
+ten-small d m l =
+    lt-of-lt-of-le (count-above d m (digitCount d m) refl) (pow-le-pow-right (omega arith) (count-within d m 10 l))
+
+-- what is not below 10 ^ 9 has ten digits and no decimals
+pub begun-ten : (x y : List ℕ) (d m r : ℕ) → length x ≡ 10 → length (decimalOf d m) ≤ 10 → 10 ^ 9 ≤ m → r ≡ m % 10 ^ 9 → y ≡ set x 0 (digit (m / 10 ^ 9))
+    → Begun x d m y (record { start = 0; at = 1; high = 9; value = r })
+begun-ten x y (suc d) m r n l h e f = absurd (omega (arith, length-parts (suc d) m (digitCount (suc d) m) (omega arith) refl, count-ten (suc d) m h))
+begun-ten [] y zero m r n l h e f = absurd (omega arith)
+begun-ten (a ∷ t) y zero m r n l h e f =
+    let long = length-whole 0 m (digitCount 0 m) (omega arith) refl in
+    let ten : length (decimalOf 0 m) ≡ 10 = omega (arith, long, count-ten 0 m h) in
+    let digits : length (digitsOf m) ≡ 10 = rw (decimal-whole 0 m (omega arith)) at ten in
+    let first : m / 10 ^ 9 % 10 ≡ m / 10 ^ 9 = mod-eq-of-lt (omega (arith, ten-small 0 m l)) in
+    record {
+      start = omega arith;
+      long = rw (f, length-set (a ∷ t) 0 (digit (m / 10 ^ 9)));
+      few = omega arith;
+      some = omega arith;
+      small = rw e (mod-lt m (omega arith));
+      up-to = rw (div-one m) (omega arith);
+      whole = rw (f, div-one r, div-one m, e, last-of-rest 9 m) (rw (digits, last-digits-cons 9 m, first) at (all-last m));
+      after = rw f;
+      decimals = omega arith;
+    }
+
+-- ---- the buffer
+
+-- once the digits before the point are written
+pub whole-laid : (x y z : List ℕ) (d m : ℕ) (n : Nine) → Begun x d m y n
+    → z ≡ take (n .at) y ++ lastDigits (n .high - d) (n .value / 10 ^ d) ++ drop (n .at + (n .high - d)) y
+    → z ≡ take (n .start) x ++ digitsOf (m / 10 ^ d) ++ drop (n .start + length (digitsOf (m / 10 ^ d))) x
+whole-laid x y z d m n b e = e ∙ rw (b .whole, b .after, b .up-to)
+
+module _ (x : List ℕ) (d m s : ℕ) (e : s + length (decimalOf d m) ≡ length x) where
+  -- there is room for the digits before the point, and for the point and the decimals
+  pub whole-room : s + length (digitsOf (m / 10 ^ d)) ≤ length x
+  whole-room = go d e
+    where
+      go : (d : ℕ) → s + length (decimalOf d m) ≡ length x → s + length (digitsOf (m / 10 ^ d)) ≤ length x
+      go zero e = rw (div-one m) (omega (arith, rw (decimal-whole 0 m (omega arith)) at e))
+      go (suc d) e = omega (arith, length-decimal-parts (suc d) m (omega arith))
+
+  pub whole-long : (z : List ℕ) → z ≡ take s x ++ digitsOf (m / 10 ^ d) ++ drop (s + length (digitsOf (m / 10 ^ d))) x → length z ≡ length x
+  unfolding between
+  whole-long z g = rw g (between-length x s (s + length (digitsOf (m / 10 ^ d))) (digitsOf (m / 10 ^ d)) refl whole-room)
+
+-- without decimals that is all
+pub whole-done : (x z : List ℕ) (d m s : ℕ) → d < 1 → s + length (decimalOf d m) ≡ length x
+    → z ≡ take s x ++ digitsOf (m / 10 ^ d) ++ drop (s + length (digitsOf (m / 10 ^ d))) x
+    → z ≡ take s x ++ decimalOf d m
+unfolding between decimalOf
+whole-done x z zero m s h e g =
+    let all : s + length (digitsOf m) ≡ length x = e in
+    g ∙ rw (div-one m, all) (between-end x s (digitsOf m))
+whole-done x z (suc d) m s h e g = absurd (omega arith)
+
+-- and with them the point and the decimals follow
+pub parts-done : (x y z : List ℕ) (d m s r : ℕ) → 1 ≤ d → s + length (decimalOf d m) ≡ length x
+    → y ≡ take s x ++ digitsOf (m / 10 ^ d) ++ drop (s + length (digitsOf (m / 10 ^ d))) x
+    → r ≡ m % 10 ^ d
+    → z ≡ take (length y - d - 1) y ++ point ∷ lastDigits d r
+    → z ≡ take s x ++ decimalOf d m
 unfolding between
-whole-done x y r d v h e = rw (decimal-whole d v h) (e ∙ between-end x r (digitsOf v))
+parts-done x y z d m s r h e g f k =
+    let whole = digitsOf (m / 10 ^ d) in
+    let parts = length-decimal-parts d m h in
+    let long : length y ≡ length x = whole-long x d m s e y g in
+    let front : length (take s x ++ whole) ≡ s + length whole = rw (length-append, length-take-le s x (omega arith)) in
+    let point-at : length y - d - 1 ≡ s + length whole = omega arith in
+    let before : take (length y - d - 1) y ≡ take s x ++ whole =
+    rw (point-at, g) (take-at (take s x ++ whole) (drop (s + length whole) x) (s + length whole) front) in
+    k ∙ rw (before, f, last-of-rest d m, decimal-parts d m h) (append-assoc (take s x) whole (point ∷ lastDigits d m))
 
--- a text, a byte before it, and a text before that
-three-pieces : (d : List ℕ) (a p e b : ℕ) (s t : List ℕ) → a ≤ p → suc p ≤ length d
-    → between (set (between d (suc p) t e) p b) a s p ≡ between d a (s ++ (b ∷ t)) e
-three-pieces d a p e b s t h l =
-    rw (between-byte (between d (suc p) t e) p b (long-before d (suc p) e t l), between-between d p (suc p) e (b ∷ []) t (omega arith) l)
-    (between-between d a p e s (b ∷ t) h (omega arith))
-
--- the buffer once the decimals, the point and the digits before it are written
-pub parts-done : (x y z : List ℕ) (r d v w : ℕ) → 1 ≤ d → length (decimalOf d v) ≤ length x
-    → y ≡ take (length x - d) x ++ lastDigits d v ++ drop (length x) x
-    → w ≡ v / 10 ^ d
-    → r + length (digitsOf w) ≡ length x - d - 1
-    → z ≡ take r (set y (length x - d - 1) point) ++ digitsOf w ++ drop (length x - d - 1) (set y (length x - d - 1) point)
-    → z ≡ take r x ++ decimalOf d v
+-- the point and the decimals themselves
+pub decimals-done : (x y : List ℕ) (d v : ℕ) → d + 1 ≤ length x
+    → y ≡ take (length x - d - 1 + 1) (set x (length x - d - 1) point) ++ lastDigits (d - 0) (v / 10 ^ 0) ++ drop (length x - d - 1 + 1 + (d - 0)) (set x (length x - d - 1) point)
+    → y ≡ take (length x - d - 1) x ++ point ∷ lastDigits d v
 unfolding between
-parts-done x y z r d v w h l e f g k =
-    let next : length x - d ≡ suc (length x - d - 1) = omega (arith, length-decimal-parts d v h) in
-    rw (decimal-parts d v h, ← f)
-    (k
-    ∙ rw e (rw (← next) at (three-pieces x r (length x - d - 1) (length x) point (digitsOf w) (lastDigits d v) (omega arith) (omega (arith, length-decimal-parts d v h))))
-    ∙ between-end x r (digitsOf w ++ (point ∷ lastDigits d v)))
+decimals-done x y d v l e =
+    let n = length x in
+    let to-end : n - d - 1 + 1 + (d - 0) ≡ n = omega arith in
+    let digits : lastDigits (d - 0) (v / 10 ^ 0) ≡ lastDigits d v = rw (sub-zero d, div-one v) in
+    let laid : set x (n - d - 1) point ≡ between x (n - d - 1) (point ∷ []) (n - d - 1 + 1) = between-byte x (n - d - 1) point (omega arith) in
+    let after : y ≡ between (between x (n - d - 1) (point ∷ []) (n - d - 1 + 1)) (n - d - 1 + 1) (lastDigits (d - 0) (v / 10 ^ 0)) (n - d - 1 + 1 + (d - 0)) =
+    e ∙ rw laid in
+    after
+    ∙ (between-after x (n - d - 1) (n - d - 1 + 1) (point ∷ []) refl (omega arith) (d - 0) (lastDigits (d - 0) (v / 10 ^ 0))
+    ∙ rw (to-end, digits) (between-end x (n - d - 1) (point ∷ lastDigits d v)))
 
 -- a number's size has room where the number has, and a minus has room before it
 pub size-room : (d m k : ℕ) (n : ℤ) → m ≡ natAbs n → widthOf d n ≤ k → length (decimalOf d m) ≤ k

@@ -1,8 +1,10 @@
+mod Between
 pub mod Cells
 pub mod DecimalText
 mod Ending
 mod FieldText
 pub mod FieldWidth
+mod HighestFirst
 pub mod Named
 mod NumberText
 mod Parts

@@ -1,5 +1,6 @@
 pub mod Ascii
 pub mod Decimals
+pub mod Digits
 pub mod Field
 pub mod Printable
 pub mod Reading

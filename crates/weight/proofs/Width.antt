@@ -28,7 +28,8 @@ tests-agree a b x y f g = go (leb a b) (leb x y) refl refl
 pub div-test : (m k y : ℕ) → 0 < k → ltb (m / k) y ≡ ltb m (y * k)
 div-test m k y h = tests-agree (suc (m / k)) y (suc m) (y * k) (div-lt-iff-lt-mul h .0) (div-lt-iff-lt-mul h .1)
 
-digits-some : (m : ℕ) → 1 ≤ length (digitsOf m)
+-- one digit at least
+pub digits-some : (m : ℕ) → 1 ≤ length (digitsOf m)
 digits-some m = go (ltb m 10) refl
   where
     go : (t : Bool) → ltb m 10 ≡ t → 1 ≤ length (digitsOf m)
@@ -55,6 +56,11 @@ digits-fit (suc w) m = go (digits-fit w (m / 10)) (ltb m 10) refl
         rw (length-digits-small m (ltb-true m 10 e), le-leb 1 (suc (suc w)) (omega arith), lt-ltb m (10 ^ suc (suc w)) (omega (arith, ten-at-least (suc w), ltb-true m 10 e)))
     go ih false e = rw (length-digits-step m (ltb-false m 10 e), leb·suc-suc, ih, div-test m 10 (10 ^ suc w) (omega arith), ← pow-suc 10 (suc w))
 
+-- the same for the digits above d places
+pub whole-fit : (d w m : ℕ) → leb (length (digitsOf (m / 10 ^ d))) (suc w) ≡ ltb m (10 ^ (suc w + d))
+whole-fit d w m =
+    digits-fit w (m / 10 ^ d) ∙ div-test m (10 ^ d) (10 ^ suc w) (one-le-pow d 10 (omega arith)) ∙ rw (pow-add 10 (suc w) d)
+
 -- the characters that the point and the minus take
 abbrev pub pointWidth : ℕ → ℕ
 pointWidth d = cond (ltb d 1) 0 1
@@ -71,9 +77,7 @@ decimal-fit : (d w m : ℕ) → leb (length (decimalOf (suc d) m)) (suc w + suc 
 decimal-fit d w m =
     rw (decimal-width d m)
     (tests-agree (length (digitsOf (m / 10 ^ suc d)) + suc (suc d)) (suc w + suc (suc d)) (length (digitsOf (m / 10 ^ suc d))) (suc w) (λ h. omega arith) (λ h. omega arith)
-    ∙ digits-fit w (m / 10 ^ suc d)
-    ∙ div-test m (10 ^ suc d) (10 ^ suc w) (one-le-pow (suc d) 10 (omega arith))
-    ∙ rw (pow-add 10 (suc w) (suc d)))
+    ∙ whole-fit (suc d) w m)
 
 -- a number without its sign, in p characters
 decimal-limit : (d m p : ℕ) → suc d + pointWidth d ≤ p → leb (length (decimalOf d m)) p ≡ ltb m (10 ^ (p - pointWidth d))

@@ -39,29 +39,26 @@ pub fn read(text: &[u8]) {
     show::end();
 }
 
-// Either side of each place where the text gets longer, and the ends of ten characters.
-fn lengths(decimals: u8, one: u64) {
+// Either side of each place where the text gets longer.
+fn lengths(decimals: u8) {
     written(decimals, 0);
-    written(decimals, 1);
-    written(decimals, 9);
-    written(decimals, 10);
-    written(decimals, show::one_less(one));
-    written(decimals, one);
-    written(decimals, 99_999_999);
-    written(decimals, 100_000_000);
-    written(decimals, 999_999_999);
-    written(decimals, 1_000_000_000);
+    let mut power = 10;
+    while power <= 1_000_000_000 {
+        written(decimals, power - 1);
+        written(decimals, power);
+        power = power * 10;
+    }
 }
 
 pub fn written_cases() {
-    lengths(0, 1);
-    lengths(1, 10);
-    lengths(2, 100);
-    lengths(3, 1_000);
-    lengths(4, 10_000);
-    lengths(5, 100_000);
-    lengths(6, 1_000_000);
-    lengths(7, 10_000_000);
+    lengths(0);
+    lengths(1);
+    lengths(2);
+    lengths(3);
+    lengths(4);
+    lengths(5);
+    lengths(6);
+    lengths(7);
     written(0, 9_999_999_999);
     written(0, 10_000_000_000);
     written(0, 9_223_372_036_854_775_807);
@@ -69,6 +66,10 @@ pub fn written_cases() {
     written(6, 9_223_372_036_854_775_808);
     written(4, 142_560);
     written(4, 1_234_567_890);
+    written(0, 1_000_000_001);
+    written(0, 9_000_000_000);
+    written(0, 9_080_706_054);
+    written(6, 908_070_605);
     written(255, 1);
 }
 

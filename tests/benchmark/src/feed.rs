@@ -7,6 +7,9 @@ pub const CALL: usize = 8;
 /// The bytes of a record of a line: its length, and the line.
 pub const LINE: usize = 64;
 
+/// The bytes of a record of a number: its decimals, whether it is below zero, and its size, the low byte first.
+pub const NUMBER: usize = 8;
+
 pub const BYTE: u8 = 0;
 pub const SAMPLE: u8 = 1;
 pub const POWER_ON: u8 = 2;
@@ -63,6 +66,9 @@ pub trait Implementation {
     fn read(line: &[u8]) -> Option<Self::Answer<'_>>;
     fn digest(answer: &Self::Answer<'_>) -> Digest;
     fn write(answer: &Self::Answer<'_>, out: &mut [u8]) -> Outcome;
+
+    /// The ten characters of a number, or none.
+    fn field(decimals: u8, places: i64) -> Option<[u8; 10]>;
 }
 
 /// A checksum in which every byte and its place count: a sum, and the sum of the sums.
@@ -214,6 +220,20 @@ pub fn rewritten<I: Implementation>(lines: &[u8], out: &mut [u8]) -> u64 {
         let count = I::read(line_in(record)).map_or(0, |answer| I::write(&answer, out).count);
         sums.add(count as u64);
         sums.add_bytes(part(out, 0, count));
+    }
+    sums.high
+}
+
+/// The checksum of the field of each number and of whether it holds it: ten spaces where it does not.
+#[inline(always)]
+pub fn fields<I: Implementation>(numbers: &[u8]) -> u64 {
+    let mut sums = Sums::default();
+    for record in numbers.chunks_exact(NUMBER) {
+        let &[decimals, negative, a, b, c, d, e, f] = record else { continue };
+        let size = i64::from_le_bytes([a, b, c, d, e, f, 0, 0]);
+        let field = I::field(decimals, if negative != 0 { -size } else { size });
+        sums.add(field.is_some().into());
+        sums.add_bytes(&field.unwrap_or([b' '; 10]));
     }
     sums.high
 }

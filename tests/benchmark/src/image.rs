@@ -1,6 +1,6 @@
 //! Inputs for the Cortex-M0 of tests/cortex-m0, as it finds them in its flash, and what the proved code on this machine makes of them.
 
-use crate::linked::{proved_buffers, proved_calls, proved_lines, proved_rewritten};
+use crate::linked::{proved_buffers, proved_calls, proved_fields, proved_lines, proved_rewritten};
 use crate::rows::{rows_on_board, Input};
 use crate::workload::*;
 use std::fs;
@@ -10,12 +10,14 @@ use std::path::Path;
 /// The flash of the board has 192 KB for it.
 const ROOM: usize = 192 * 1024;
 
-/// What is asked for; a random history asks for the first three, or for whole buffers.
+/// What is asked for; a random history asks for the first three and for fields, or for whole buffers.
 const CALLS: u32 = 1;
 const LINES: u32 = 2;
 const REWRITTEN: u32 = 4;
 const ANSWERS: u32 = 8;
 const BUFFERS: u32 = 16;
+const FIELDS: u32 = 32;
+const DIVISIONS: u32 = 64;
 
 /// The small count of a row; ten times that fits.
 pub const FEW: usize = 5;
@@ -30,6 +32,9 @@ struct Image {
     calls: Script,
     lines: Vec<u8>,
     buffers: Buffers,
+    numbers: Vec<u8>,
+    /// How often each of the calls divides.
+    divisions: Vec<u64>,
 }
 
 impl Image {
@@ -50,7 +55,8 @@ impl Image {
         let mut rng = Rng::new(seed);
         let profiles = any_profiles(&mut rng, 40);
         let calls = any_history(&mut rng, 40, 15_000);
-        Image { what: CALLS | LINES | REWRITTEN, profiles, calls, lines: lines(&any_lines(&mut rng, 800)), ..Image::default() }
+        let (lines, numbers) = (lines(&any_lines(&mut rng, 700)), any_numbers(&mut rng, 700));
+        Image { what: CALLS | LINES | REWRITTEN | FIELDS, profiles, calls, lines, numbers, ..Image::default() }
     }
 
     fn random_buffers(seed: u64) -> Image {
@@ -60,19 +66,95 @@ impl Image {
         Image { what: BUFFERS, profiles, buffers, ..Image::default() }
     }
 
+    /// Document 02, No. 4: how often each kind of call divides. A line divides at its last byte.
+    fn of_divisions() -> Image {
+        let mut image = Image { what: DIVISIONS, profiles: [profile_a(), vec![0; 144]].concat(), ..Image::default() };
+        image.calls.power_on();
+        image.divides(0);
+        image.line("SI", 0); // no sample has come: S I
+        image.sample(14_256_050, true, 0);
+        for line in ["S", "SI", "T", "TI", "TA"] {
+            image.line(line, 1);
+        }
+        image.line("TA 100.00 g", 3);
+        image.line("TA 300 g", 2); // above the capacity, which the rounded number tells
+        for line in ["TA 1.5 kg", "TA x", "TAC", "Z", "ZI", "@", "D \"pouch 12\"", "DW", "Q", "SI "] {
+            image.line(line, 0);
+        }
+        for line in ["I0", "I1", "I2", "I3", "I4", "I5"] {
+            image.line(line, 0);
+        }
+        image.sample(14_256_050, true, 0);
+        image.line("SIR", 1);
+        image.sample(14_256_050, true, 1);
+        image.sample(-14_256_050, false, 0); // underload: S -
+        image.line("SR", 0); // waits
+        image.sample(14_256_050, true, 1);
+        image.sample(15_256_050, true, 0); // by less than an eighth: not sent
+        image.sample(19_256_050, true, 1);
+        image.line("SR 10.00 g", 2); // its number, and the weight that it sends
+        image.line("@", 0);
+        image.sample(14_256_050, false, 0);
+        for line in ["S", "T"] {
+            image.line(line, 0); // waits
+            image.sample(14_256_050, true, 1);
+            image.sample(14_256_050, false, 0);
+        }
+        image.line("T", 0);
+        for _ in 0..3 {
+            image.sample(14_256_050, false, 0); // T I at the last one
+        }
+        image.sample(-500_000, true, 0);
+        image.line("SI", 1); // below zero
+        for (line, times) in [("SI", 1), ("I4", 0)] {
+            image.line_in(0, line, times); // refused by 3: the answer is made before its room is tested
+            image.calls.byte(10);
+            image.divides(times);
+        }
+        image.calls.profile(1); // refused by 1
+        image.divides(0);
+        image.line("SI", 0);
+        image.sample(14_256_050, true, 0);
+        image
+    }
+
+    fn divides(&mut self, times: u64) {
+        self.divisions.push(times);
+    }
+
+    fn line(&mut self, line: &str, times: u64) {
+        self.line_in(256, line, times);
+    }
+
+    fn line_in(&mut self, room: u16, line: &str, times: u64) {
+        for &byte in line.as_bytes() {
+            self.calls.byte(byte);
+        }
+        self.calls.byte(13);
+        self.calls.byte_in(room, 10);
+        self.divisions.extend(vec![0; line.len() + 1]);
+        self.divides(times);
+    }
+
+    fn sample(&mut self, load: i32, stable: bool, times: u64) {
+        self.calls.sample(load, stable);
+        self.divides(times);
+    }
+
     fn of(input: Input) -> Image {
         match input {
             Input::Buffers(profiles, buffers) => Image { what: BUFFERS, profiles, buffers, ..Image::default() },
             Input::Calls(profiles, calls) => Image { what: CALLS, profiles, calls, ..Image::default() },
             Input::Lines(lines) => Image { what: LINES, lines, ..Image::default() },
             Input::Rewritten(lines) => Image { what: REWRITTEN, lines, ..Image::default() },
+            Input::Fields(numbers) => Image { what: FIELDS, numbers, ..Image::default() },
         }
     }
 
-    /// What is asked for and the six sizes, then the six parts.
+    /// What is asked for and the seven sizes, then the seven parts.
     fn bytes(&self) -> Vec<u8> {
         let Buffers { script, bytes, marks } = &self.buffers;
-        let parts = [&self.profiles, &self.calls.0, &self.lines, &script.0, bytes, marks];
+        let parts = [&self.profiles, &self.calls.0, &self.lines, &script.0, bytes, marks, &self.numbers];
         let sizes = parts.map(|part| (part.len() as u32).to_le_bytes());
         [&self.what.to_le_bytes()[..], &sizes.concat(), &parts.map(Vec::as_slice).concat()].concat()
     }
@@ -100,6 +182,12 @@ impl Image {
             let Buffers { script, .. } = &self.buffers;
             tell("buffers", proved_buffers(&self.profiles, &script.0, self.buffers.received(), &mut out));
         }
+        if self.what & FIELDS != 0 {
+            tell("fields", proved_fields(&self.numbers));
+        }
+        for &times in &self.divisions {
+            tell("divisions", times);
+        }
         text
     }
 
@@ -113,13 +201,18 @@ impl Image {
     }
 }
 
-/// The example, and so many random histories of 15,000 calls and 800 lines, and of 10,000 calls with whole buffers among them.
+/// The example, and so many random histories of 15,000 calls, 700 lines and 700 fields, and of 10,000 calls with whole buffers among them.
 pub fn write_histories(folder: &Path, count: u64) -> io::Result<()> {
     Image::example().write(&folder.join("example"))?;
     (1..=count).try_for_each(|seed| {
         Image::random(seed).write(&folder.join(format!("random-{seed:03}")))?;
         Image::random_buffers(seed).write(&folder.join(format!("buffers-{seed:03}")))
     })
+}
+
+/// How often each kind of call divides, for the program that counts it.
+pub fn write_divisions(folder: &Path) -> io::Result<()> {
+    Image::of_divisions().write(folder)
 }
 
 /// Each row at its small count and at ten times that.

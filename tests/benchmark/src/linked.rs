@@ -1,4 +1,4 @@
-//! The functions of the crate `measured`. A slice passes as a pointer and a length.
+//! The functions of the crates `measured`, `measured_buffers` and `measured_fields`. A slice passes as a pointer and a length.
 
 use crate::feed::Received;
 
@@ -26,10 +26,11 @@ mod symbols {
         ) -> u64;
         pub fn proved_lines(lines: *const u8, lines_len: usize, values: *mut i64) -> u64;
         pub fn proved_rewritten(lines: *const u8, lines_len: usize, out: *mut u8, out_len: usize) -> u64;
+        pub fn proved_fields(numbers: *const u8, numbers_len: usize) -> u64;
     }
 }
 
-// SAFETY of the four: each pointer is that of a slice with the length beside it, and the functions have no `requires`.
+// SAFETY of the five: each pointer is that of a slice with the length beside it, and the functions have no `requires`.
 
 pub fn proved_calls(profiles: &[u8], script: &[u8], out: &mut [u8]) -> u64 {
     unsafe {
@@ -61,4 +62,8 @@ pub fn proved_lines(lines: &[u8], values: &mut i64) -> u64 {
 
 pub fn proved_rewritten(lines: &[u8], out: &mut [u8]) -> u64 {
     unsafe { symbols::proved_rewritten(lines.as_ptr(), lines.len(), out.as_mut_ptr(), out.len()) }
+}
+
+pub fn proved_fields(numbers: &[u8]) -> u64 {
+    unsafe { symbols::proved_fields(numbers.as_ptr(), numbers.len()) }
 }

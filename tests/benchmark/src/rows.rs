@@ -1,6 +1,6 @@
 //! The rows of the tables: inputs that grow with a count.
 
-use crate::linked::{proved_buffers, proved_calls, proved_lines, proved_rewritten};
+use crate::linked::{proved_buffers, proved_calls, proved_fields, proved_lines, proved_rewritten};
 use crate::sides::*;
 use crate::workload::*;
 use std::sync::Mutex;
@@ -36,6 +36,7 @@ pub enum Input {
     Buffers(Vec<u8>, Buffers),
     Lines(Vec<u8>),
     Rewritten(Vec<u8>),
+    Fields(Vec<u8>),
 }
 
 pub struct Row {
@@ -78,6 +79,9 @@ pub fn run(side: Side, input: &Input) -> (u64, i64) {
         (Side::Proved, Input::Rewritten(lines)) => proved_rewritten(lines, &mut out),
         (Side::Independent, Input::Rewritten(lines)) => independent_rewritten(lines, &mut out),
         (Side::Fast, Input::Rewritten(lines)) => fast_rewritten(lines, &mut out),
+        (Side::Proved, Input::Fields(numbers)) => proved_fields(numbers),
+        (Side::Independent, Input::Fields(numbers)) => independent_fields(numbers),
+        (Side::Fast, Input::Fields(numbers)) => fast_fields(numbers),
     };
     (sum, values)
 }
@@ -108,6 +112,16 @@ fn reads(name: &str, all: Vec<Vec<u8>>) -> Row {
 
 fn rewrites(name: &str, all: Vec<Vec<u8>>) -> Row {
     row(name, all.len(), move |count| Input::Rewritten(lines(&all).repeat(count)))
+}
+
+/// One number again and again.
+fn field(name: &str, decimals: u8, places: i64) -> Row {
+    row(name, 100, move |count| Input::Fields(number(decimals, places).repeat(100 * count)))
+}
+
+/// Without what the loop takes, which a number with 7 decimals shows: it is tested, and has ten spaces.
+fn digits(name: &str, decimals: u8, places: i64) -> Row {
+    Row { less: Some(NO_FIELD), ..field(name, decimals, places) }
 }
 
 fn samples(name: &str, before: &'static [u8], fill: fn(&mut Script, usize)) -> Row {
@@ -197,10 +211,17 @@ pub fn rows() -> Vec<Row> {
         reads("read: line of I0", listed_lines()),
         reads("read: error", error_lines()),
         reads("read: refused line", refused_lines()),
+        field(NO_FIELD, 7, 142_560),
+        digits("field `   14.2560`", 4, 142_560),
+        digits("field `  -14.2560`", 4, -142_560),
+        digits("field `         0`", 0, 0),
+        digits("field `99999.9999`", 4, 999_999_999),
+        digits("field `9999999999`", 0, 9_999_999_999),
     ]
 }
 
 pub const POWER_ON: &str = "power-on";
+pub const NO_FIELD: &str = "no field: a number with 7 decimals";
 pub const SR_STARTED: &str = "power-on, sample and line `SR`";
 
 /// How many rows have their speed and growth measured.

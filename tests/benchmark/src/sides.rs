@@ -2,11 +2,11 @@
 //! its functions by name, so that callgrind can count them.
 
 use crate::fast::command::{Command, Status};
-use crate::fast::{module, profile, reader};
-use crate::feed::{buffers, calls, lines, rewritten, Digest, Implementation, Outcome, Received, Taken};
+use crate::fast::{module, profile, reader, weight};
+use crate::feed::{buffers, calls, fields, lines, rewritten, Digest, Implementation, Outcome, Received, Taken};
 use independent::module::{Module, Sample};
 use independent::reader::Reader;
-use independent::weight::{Scale, UNITS};
+use independent::weight::{number_text, Scale, UNITS};
 
 pub struct Fast;
 
@@ -66,6 +66,14 @@ impl Implementation for Fast {
             Ok(count) => Outcome { refusal: 0, count },
             Err(refusal) => Outcome { refusal, count: 0 },
         }
+    }
+
+    fn field(decimals: u8, places: i64) -> Option<[u8; 10]> {
+        let mut field = [0; 10];
+        (decimals <= 6 && weight::fits(places, decimals)).then(|| {
+            weight::put_field(places, decimals, &mut field);
+            field
+        })
     }
 }
 
@@ -159,11 +167,16 @@ impl Implementation for Independent {
     fn write(answer: &Self::Answer<'_>, out: &mut [u8]) -> Outcome {
         outcome(independent::reader::write(answer, out))
     }
+
+    fn field(decimals: u8, places: i64) -> Option<[u8; 10]> {
+        let text = (decimals <= 6).then(|| number_text(places.into(), decimals, places < 0))?;
+        format!("{text:>10}").as_bytes().try_into().ok()
+    }
 }
 
 /// The functions of one side, which callgrind counts by their names.
 macro_rules! named {
-    ($side:ty, $calls:ident, $buffers:ident, $lines:ident, $rewritten:ident) => {
+    ($side:ty, $calls:ident, $buffers:ident, $lines:ident, $rewritten:ident, $fields:ident) => {
         #[inline(never)]
         #[no_mangle]
         pub fn $calls(profiles: &[u8], script: &[u8], out: &mut [u8]) -> u64 {
@@ -187,8 +200,14 @@ macro_rules! named {
         pub fn $rewritten(all: &[u8], out: &mut [u8]) -> u64 {
             rewritten::<$side>(all, out)
         }
+
+        #[inline(never)]
+        #[no_mangle]
+        pub fn $fields(numbers: &[u8]) -> u64 {
+            fields::<$side>(numbers)
+        }
     };
 }
 
-named!(Fast, fast_calls, fast_buffers, fast_lines, fast_rewritten);
-named!(Independent, independent_calls, independent_buffers, independent_lines, independent_rewritten);
+named!(Fast, fast_calls, fast_buffers, fast_lines, fast_rewritten, fast_fields);
+named!(Independent, independent_calls, independent_buffers, independent_lines, independent_rewritten, independent_fields);

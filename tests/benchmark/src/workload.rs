@@ -74,7 +74,12 @@ impl Script {
     }
 
     pub fn byte(&mut self, byte: u8) {
-        self.record(feed::BYTE, false, 256, [byte, 0, 0, 0]);
+        self.byte_in(256, byte);
+    }
+
+    /// With a buffer of this length.
+    pub fn byte_in(&mut self, room: u16, byte: u8) {
+        self.record(feed::BYTE, false, room, [byte, 0, 0, 0]);
     }
 
     pub fn line(&mut self, line: &[u8]) {
@@ -392,6 +397,26 @@ pub fn lines(lines: &[Vec<u8>]) -> Vec<u8> {
         records.resize(records.len() + feed::LINE - 1 - length, 0);
     }
     records
+}
+
+/// The record of a number of up to ten digits.
+pub fn number(decimals: u8, places: i64) -> Vec<u8> {
+    let size = places.unsigned_abs().to_le_bytes();
+    [&[decimals, (places < 0).into()], &size[..feed::NUMBER - 2]].concat()
+}
+
+/// Of any length, half of them at either side of a power of ten.
+pub fn any_numbers(rng: &mut Rng, count: usize) -> Vec<u8> {
+    let mut any = || {
+        let size = match rng.below(4) {
+            0 => 10u64.pow(rng.below(10) as u32),
+            1 => 10u64.pow(rng.below(11) as u32) - 1,
+            _ => rng.digits(10),
+        };
+        let places = if rng.chance(50) { -(size as i64) } else { size as i64 };
+        number(rng.below(8) as u8, places)
+    };
+    (0..count).flat_map(|_| any()).collect()
 }
 
 pub fn weight_lines() -> Vec<Vec<u8>> {

@@ -1,6 +1,6 @@
 -- `field_of` meets its contract: a number that fits is written over the end of ten spaces.
 -- Assumes nothing.
-use mathlib.Core.Path.{_≡_, _∙_, sym}
+use mathlib.Core.Path.{_≡_, refl, _∙_, sym}
 use mathlib.Core.Bool.{true}
 use mathlib.Core.List.{List, _++_}
 use Prim.Native.Nat.{ℕ, _+_, _-_, _≤_}
@@ -35,7 +35,7 @@ slice-aggregate-number : tie.Need-slice-aggregate-number
 slice-aggregate-number c = search needs
 
 number-requires : tie.Need-number-requires
-number-requires c κs = fits-width (c .before .before .before .args .decimals) (c .before .before .before .args .places .0) (sym (c .before .before .fits2 .ensures) ∙ c .before .if1 .taken)
+number-requires c κs = (refl, fits-width (c .before .before .before .args .decimals) (c .before .before .before .args .places .0) (sym (c .before .before .fits2 .ensures) ∙ c .before .if1 .taken))
 
 returns : tie.Need-returns
 returns c =

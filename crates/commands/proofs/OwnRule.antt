@@ -22,13 +22,12 @@ use Rattle.weighing.specs.declared.weighing.Measured.{Measured}
 use Rattle.model.specs.declared.weighing.Weighing.{Weighing}
 use Rattle.commands.specs.Reactions.{changing, informed, modeAfter, run, runAs, sendingAs, showing, showingWeight, taring, unanswered, weighing, zeroing}
 use Rattle.model.specs.Groups.{reaction, withSending, withWeighing}
-use Rattle.model.specs.Profiles.{scaleOf}
+use Rattle.model.specs.Profiles.{resolutionIn, scaleOf}
 use Rattle.waiting.specs.Changes.{withThreshold}
-use Rattle.waiting.specs.Parts.{begunBy}
-use Rattle.waiting.specs.Waits.{measuredReaction}
-use Rattle.waiting.proofs.Scales.{begun-scale}
+use Rattle.waiting.specs.Waits.{begunBy, measuredReaction}
 use Rattle.answer.specs.Lines.{headOf}
-use Rattle.weighing.specs.Weighings.{stability, tareAnswer, tared, taredBy, weighed, weighedBy, withTare, zeroed, zeroedBy}
+use Rattle.weight.specs.declared.rounding.Resolution.{Resolution}
+use Rattle.weighing.specs.Weighings.{stability, tareAnswer, taredBy, weighedBy, withTare, zeroedBy}
 
 -- D and DW
 module _ (s : State) (c : ℕ) {r : Reaction} where
@@ -48,10 +47,10 @@ pub mode-off : (c : ℕ) → (c ≡ placeSIR → ⊥) → Off ≡ modeAfter c
 mode-off c e = rw (ne-eqb c placeSIR e)
 
 -- SR
-pub changing-begun : (p : Profile) (s : State) (threshold : ℕ) {scale : Scale} {t : State} {r : Reaction} → scale ≡ scaleOf p
+pub changing-begun : (p : Profile) (s : State) (threshold : ℕ) {scale : Scale} {t : State} {r : Reaction} → scale ≡ scaleOf p (s .weighing)
     → t ≡ withSending s (withThreshold (s .sending) threshold) → r ≡ begunBy scale t Change → r ≡ changing p s threshold
 unfolding changing
-changing-begun p s threshold by t g = rw (begun-scale p _ Change by g, t)
+changing-begun p s threshold by t g = rw (g, by, t)
 
 module _ (p : Profile) (s : State) (c : ℕ) {r : Reaction} where
   -- by the kind that was found
@@ -75,7 +74,7 @@ module _ (p : Profile) (s : State) (c : ℕ) {r : Reaction} where
     pub run-showing : k ≡ Shows → r ≡ showing s c → r ≡ run p s c
     run-showing = run-as
 
-    pub run-changing : {scale : Scale} {t : State} → k ≡ Sends → scale ≡ scaleOf p → t ≡ withSending s (withThreshold (s .sending) 0)
+    pub run-changing : {scale : Scale} {t : State} → k ≡ Sends → scale ≡ scaleOf p (s .weighing) → t ≡ withSending s (withThreshold (s .sending) 0)
         → r ≡ begunBy scale t Change → r ≡ run p s c
     run-changing is by t g = run-as is (changing-begun p s 0 by t g)
 
@@ -87,31 +86,31 @@ module _ (p : Profile) (s : State) (c : ℕ) {r : Reaction} where
 
   -- S and Z wait, SI, SIR and ZI do not
   module _ {w : Bool} (asked : w ≡ mayWait c) where
-    pub weighing-begun : {scale : Scale} {t : State} → w ≡ true → scale ≡ scaleOf p → t ≡ sendingAs s Off → r ≡ begunBy scale t Weigh → r ≡ weighing p s c
+    pub weighing-begun : {scale : Scale} {t : State} → w ≡ true → scale ≡ scaleOf p (s .weighing) → t ≡ sendingAs s Off → r ≡ begunBy scale t Weigh → r ≡ weighing p s c
     unfolding weighing
-    weighing-begun e by t g = rw (begun-scale p _ Weigh by g, t, sym asked ∙ e)
+    weighing-begun e by t g = rw (g, by, t, sym asked ∙ e)
 
-    pub weighing-at-once : {m : Mode} {t : State} {scale : Scale} {a : Answer} → w ≡ false → m ≡ modeAfter c → t ≡ sendingAs s m → scale ≡ scaleOf p
+    pub weighing-at-once : {m : Mode} {t : State} {scale : Scale} {a : Answer} → w ≡ false → m ≡ modeAfter c → t ≡ sendingAs s m → scale ≡ scaleOf p (s .weighing)
         → a ≡ weighedBy scale (s .weighing) → r ≡ reaction t a → r ≡ weighing p s c
-    unfolding weighing weighed
+    unfolding weighing
     weighing-at-once e m t by a g = rw (g, t, m, a, by, sym asked ∙ e)
 
-    pub zeroing-begun : {scale : Scale} → w ≡ true → scale ≡ scaleOf p → r ≡ begunBy scale s Zero → r ≡ zeroing p s c
+    pub zeroing-begun : {scale : Scale} → w ≡ true → scale ≡ scaleOf p (s .weighing) → r ≡ begunBy scale s Zero → r ≡ zeroing p s c
     unfolding zeroing
-    zeroing-begun e by g = rw (begun-scale p s Zero by g, sym asked ∙ e)
+    zeroing-begun e by g = rw (g, by, sym asked ∙ e)
 
-    pub zeroing-at-once : {scale : Scale} {b : Status} {m : Measured} → w ≡ false → scale ≡ scaleOf p → b ≡ stability (s .weighing)
+    pub zeroing-at-once : {scale : Scale} {b : Status} {m : Measured} → w ≡ false → scale ≡ scaleOf p (s .weighing) → b ≡ stability (s .weighing)
         → m ≡ zeroedBy scale (s .weighing) placeZI b → r ≡ measuredReaction s m → r ≡ zeroing p s c
-    unfolding zeroing zeroed
+    unfolding zeroing
     zeroing-at-once e by b m g = rw (g, m, b, by, sym asked ∙ e)
 
-  pub taring-begun : {scale : Scale} → c ≡ placeT → scale ≡ scaleOf p → r ≡ begunBy scale s Tare → r ≡ taring p s c
+  pub taring-begun : {scale : Scale} → c ≡ placeT → scale ≡ scaleOf p (s .weighing) → r ≡ begunBy scale s Tare → r ≡ taring p s c
   unfolding taring
-  taring-begun t by e = rw (begun-scale p s Tare by e, eq-eqb c placeT t)
+  taring-begun t by e = rw (e, by, eq-eqb c placeT t)
 
-  pub taring-at-once : {scale : Scale} {m : Measured} → (c ≡ placeT → ⊥) → c ≡ placeTI → scale ≡ scaleOf p
+  pub taring-at-once : {scale : Scale} {m : Measured} → (c ≡ placeT → ⊥) → c ≡ placeTI → scale ≡ scaleOf p (s .weighing)
       → m ≡ taredBy scale (s .weighing) placeTI → r ≡ measuredReaction s m → r ≡ taring p s c
-  unfolding taring tared
+  unfolding taring
   taring-at-once t ti by m e = rw (e, m, by, ne-eqb c placeT t, eq-eqb c placeTI ti)
 
   pub taring-cleared : {t : State} {w : Weighing} {a : Answer} → (c ≡ placeT → ⊥) → (c ≡ placeTI → ⊥) → c ≡ placeTAC
@@ -120,9 +119,10 @@ module _ (p : Profile) (s : State) (c : ℕ) {r : Reaction} where
   taring-cleared t ti tac w v a e = rw (e, v, w, a, ne-eqb c placeT t, ne-eqb c placeTI ti, eq-eqb c placeTAC tac)
 
   module _ (t : c ≡ placeT → ⊥) (ti : c ≡ placeTI → ⊥) (tac : c ≡ placeTAC → ⊥) where
-    pub taring-asked : {a : Answer} → c ≡ placeTA → a ≡ tareAnswer p (s .weighing .tare .0) → r ≡ reaction s a → r ≡ taring p s c
+    pub taring-asked : {k : Resolution} {a : Answer} → c ≡ placeTA → k ≡ resolutionIn p (s .weighing) → a ≡ tareAnswer k (s .weighing .tare .0) → r ≡ reaction s a
+        → r ≡ taring p s c
     unfolding taring
-    taring-asked ta a e = rw (e, a, ne-eqb c placeT t, ne-eqb c placeTI ti, ne-eqb c placeTAC tac, eq-eqb c placeTA ta)
+    taring-asked ta k a e = rw (e, a, k, ne-eqb c placeT t, ne-eqb c placeTI ti, ne-eqb c placeTAC tac, eq-eqb c placeTA ta)
 
     pub taring-nothing : (c ≡ placeTA → ⊥) → r ≡ unanswered s → r ≡ taring p s c
     unfolding taring

@@ -29,10 +29,10 @@ use Rattle.commands.specs.Reactions.{run, changing, modeAfter, sendingAs
 use Rattle.model.specs.Groups.{withLine, withWeighing, withWaiting, withSending, withMode, withDisplay, notWaiting}
 use Rattle.model.specs.Sendings.{isOff, isOnChange, lastAllowed, thresholdAllowed, changeAllowed}
 use Rattle.waiting.specs.Changes.{chosenSending, withThreshold, started, goneOutside, keptInside, sent}
-use Rattle.waiting.specs.Waits.{sampledState, settled, sendingOf, settledReaction, begun, sampleReaction}
+use Rattle.waiting.specs.Waits.{sampledState, settled, sendingOf, settledReaction, begun, sampleReaction, begunBy, settledReactionBy}
 use Rattle.model.specs.States.{isPending, isChange, stateAllowed}
 use Rattle.weighing.proofs.Reach.{between, not-below, net-within}
-use Rattle.weighing.specs.Weighings.{isOutside, netOf, stability, grossOf, withTare, withZero, chosenWeighing, zeroed, tared}
+use Rattle.weighing.specs.Weighings.{isOutside, netOf, stability, grossOf, withTare, withZero, chosenWeighing, zeroed, tared, zeroedBy, taredBy}
 use Rattle.model.proofs.ProfileFacts.{allowed-profile}
 use Rattle.model.proofs.StateFacts.{StateTests, allowed-tests, tests-allow}
 use Rattle.line.specs.declared.judge.Verdict.{Verdict}
@@ -84,7 +84,7 @@ module _ (p : Profile) (w : Weighing) (old : InRanges p w) where
       }
 
   zeroed-moved : (c : ℕ) (granted : Status) → Moved p w (zeroed p w c granted .weighing)
-  unfolding zeroed
+  unfolding zeroedBy
   zeroed-moved c granted = zeroed-by (ltZ (pos (p .zeroing)) (w .load .0)) (ltZ (w .load .0) (negℤ (pos (p .zeroing)))) refl refl
 
   tared-by : (over under : Bool) → ltZ (pos (p .capacity)) (grossOf w) ≡ over → ltZ (grossOf w) (pos 0) ≡ under
@@ -95,7 +95,7 @@ module _ (p : Profile) (w : Weighing) (old : InRanges p w) where
       tare-moved (natAbs (grossOf w)) (between (grossOf w) (p .capacity) o u .1)
 
   tared-moved : (c : ℕ) → Moved p w (tared p w c .weighing)
-  unfolding tared
+  unfolding taredBy
   tared-moved c = tared-by (ltZ (pos (p .capacity)) (grossOf w)) (ltZ (grossOf w) (pos 0)) refl refl
 
   settled-moved : (pending : Pending) → Moved p w (settled p pending w .weighing)
@@ -273,7 +273,7 @@ module _ (p : Profile) (s : State) (h : StateTests p s) where
   -- what a command makes of the latest sample
   settled-allowed : (pending : Pending) → s .weighing .sampled ≡ true
       → (isChange pending ≡ true → leb (s .sending .threshold .0) (p .capacity) ≡ true) → StateTests p (settledReaction p s pending .state)
-  unfolding settledReaction
+  unfolding settledReactionBy
   settled-allowed pending sampled ok =
       let c : Sending = sendingOf p pending (s .weighing) (s .sending) in
       with-weighing p (withSending s c)
@@ -287,7 +287,7 @@ module _ (p : Profile) (least : 1 ≤ p .timeout) (s : State) (h : StateTests p 
   waits-anew pending = rw (lt-ltb 0 (p .timeout) (omega arith)) (or-true (not (isPending pending)))
 
   begun-allowed : (pending : Pending) → (isChange pending ≡ true → leb (s .sending .threshold .0) (p .capacity) ≡ true) → StateTests p (begun p s pending .state)
-  unfolding begun
+  unfolding begunBy
   begun-allowed pending ok =
       by-choice (λ x. StateTests p (x .state)) (s .weighing .sampled && s .weighing .stable)
       (λ e. settled-allowed p s h pending (both-left (s .weighing .sampled) (s .weighing .stable) e) ok)
@@ -366,7 +366,7 @@ module _ (p : Profile) (least : 1 ≤ p .timeout) (s : State) (h : StateTests p 
 -- a verdict leaves the cleared line alone
 module _ (p : Profile) where
   begun-keeps : (s : State) (pending : Pending) → begun p s pending .state .line ≡ s .line
-  unfolding begun settledReaction
+  unfolding begunBy settledReactionBy
   begun-keeps s pending = by-choice (λ x. x .state .line ≡ s .line) (s .weighing .sampled && s .weighing .stable) (λ e. refl) (λ e. refl)
 
   changing-keeps : (s : State) (t : ℕ) → changing p s t .state .line ≡ s .line

@@ -20,10 +20,11 @@ use Rattle.model.specs.declared.sending.Mode.{Mode}
 use Rattle.model.specs.declared.sending.Mode.the-variants.{Off, EachSample, OnChange}
 use Rattle.model.specs.declared.state.Pending.the-variants.{Weigh, Zero, Tare}
 use Rattle.model.specs.declared.state.State.{State}
+use Rattle.model.specs.Profiles.{resolutionIn}
 use Rattle.model.specs.States.{isPending}
 use Rattle.model.specs.declared.react.Reaction.{Reaction}
 use Rattle.model.specs.Groups.{chosenReaction, reaction, withWeighing, withWaiting, withSending, notWaiting}
-use Rattle.waiting.specs.Changes.{goneOutside, keptInside, sent, isDue, changeReaction}
+use Rattle.waiting.specs.Changes.{goneOutside, keptInside, sent, isDue, changeReaction, changeReactionBy}
 use Rattle.waiting.specs.Waits.{measuredReaction, placeOfPending, sampledState, settledReaction, begun, waited, unaskedAs, sampleReaction}
 use Rattle.answer.specs.Lines.{headOf}
 use Rattle.weighing.specs.Weighings.{isOutside, stability, weighed, withTare, zeroed, tared, tareAnswer}
@@ -102,7 +103,7 @@ module _ (P : Reaction → Type 0) (p : Profile) (s : State) (c : ℕ) (r : Rule
       → (c ≡ placeT → P (begun p s Tare))
       → (needsSample c ≡ true → P (measuredReaction s (tared p (s .weighing) placeTI)))
       → P (reaction (withWeighing s (withTare (s .weighing) 0)) (Plain (headOf placeTAC A)))
-      → (c ≡ placeTA → P (reaction s (tareAnswer p (s .weighing .tare .0))))
+      → (c ≡ placeTA → P (reaction s (tareAnswer (resolutionIn p (s .weighing)) (s .weighing .tare .0))))
       → P (taring p s c)
   unfolding taring
   taring-ways e begins tares clears tells =
@@ -133,7 +134,7 @@ module _ (P : Reaction → Type 0) (p : Profile) (s : State) (c : ℕ) (r : Rule
       → (c ≡ placeT → P (begun p s Tare))
       → (needsSample c ≡ true → P (measuredReaction s (tared p (s .weighing) placeTI)))
       → P (reaction (withWeighing s (withTare (s .weighing) 0)) (Plain (headOf placeTAC A)))
-      → (c ≡ placeTA → P (reaction s (tareAnswer p (s .weighing .tare .0))))
+      → (c ≡ placeTA → P (reaction s (tareAnswer (resolutionIn p (s .weighing)) (s .weighing .tare .0))))
       → P (run p s c)
   unfolding run
   run-cases lists versions texts stable weighs zero zeroes shows changes tare tares clears tells = by-kind (kindOf c) refl
@@ -159,7 +160,7 @@ pub change-cases
     → P (reaction (withSending s (sent (s .weighing) (s .sending))) (weighed p (s .weighing))))
     → (isOutside p (s .weighing) ≡ false → isDue p (s .weighing) (s .sending) ≡ false → P (reaction (withSending s (keptInside (s .sending))) answers.Nothing))
     → P (changeReaction p s)
-unfolding changeReaction
+unfolding changeReactionBy
 change-cases P p s told tells sends keeps =
     by-choice P (isOutside p (s .weighing))
     (λ out. by (s .sending .outside) (told out) (tells out))

@@ -8,6 +8,7 @@ ghost use Rattle.answer.specs.Commands.{placeD};
 ghost use Rattle.commands.specs.Shown.{showsShort};
 ghost use Rattle.commands.specs.Reactions as meaning;
 ghost use Rattle.model.specs.Groups as groups;
+ghost use Rattle.model.specs.Profiles.{resolutionIn};
 ghost use Rattle.answer.specs.Lines as lines;
 ghost use Rattle.weighing.specs.Weighings as weights;
 use crate::run::run;
@@ -36,6 +37,7 @@ use model::State;
 use model::Text20;
 use model::answered;
 use model::is_pending;
+use model::resolution_in;
 use model::scale_of;
 use model::with_display;
 use model::with_line;
@@ -134,12 +136,12 @@ fn show_text(state: State, line: Line, len: u8) -> Reaction
 
 // TA with a number.
 fn preset(profile: Profile, state: State, tare: Tare) -> Reaction
-    ensures { λ r. ⌜ r ≡ groups.reaction (groups.withWeighing state (weights.withTare (state .weighing) (tare .0))) (weights.tareAnswer profile (tare .0)) ⌝ }
+    ensures { λ r. ⌜ r ≡ groups.reaction (groups.withWeighing state (weights.withTare (state .weighing) (tare .0))) (weights.tareAnswer (resolutionIn profile (state .weighing)) (tare .0)) ⌝ }
 {
     let weighing = state.weighing;
     answered(
         with_weighing(state, with_tare(weighing, tare)),
-        tare_answer(profile, tare),
+        tare_answer(resolution_in(profile, weighing), tare),
     )
 }
 
@@ -148,6 +150,7 @@ fn performed(profile: Profile, state: State, line: Line, verdict: Verdict) -> Re
     requires { ⌜ showsShort verdict ≡ true ⌝ }
     ensures { λ r. ⌜ r ≡ meaning.performed profile state line verdict ⌝ }
 {
+    let weighing = state.weighing;
     match verdict {
         Verdict::Erroneous(error) => answered(state, Answer::ErrorLine(error)),
         Verdict::Reset => answered(reset_state(state), Answer::Text(I4)),
@@ -157,7 +160,7 @@ fn performed(profile: Profile, state: State, line: Line, verdict: Verdict) -> Re
         Verdict::Run(command) => run(profile, state, command),
         Verdict::Preset(tare) => preset(profile, state, tare),
         Verdict::Change(threshold) => begun(
-            scale_of(profile),
+            scale_of(profile, weighing),
             with_change(state, threshold),
             Pending::Change,
         ),
@@ -169,13 +172,12 @@ fn performed(profile: Profile, state: State, line: Line, verdict: Verdict) -> Re
 fn situation_of(profile: Profile, state: State) -> Situation
     ensures { λ r. ⌜ r ≡ meaning.situationOf profile state ⌝ }
 {
-    let resolution = profile.resolution;
     let weighing = state.weighing;
     let waiting = state.waiting;
     let pending = waiting.pending;
     Situation {
         capacity: profile.capacity,
-        resolution,
+        resolution: resolution_in(profile, weighing),
         waiting: is_pending(pending),
         sampled: weighing.sampled,
     }

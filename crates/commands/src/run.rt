@@ -26,6 +26,7 @@ use model::Profile;
 use model::Reaction;
 use model::State;
 use model::answered;
+use model::resolution_in;
 use model::scale_of;
 use model::with_display;
 use model::with_mode;
@@ -87,17 +88,17 @@ fn sending_as(state: State, mode: Mode) -> State
 fn run_weighing(profile: Profile, state: State, command: u8) -> Reaction
     ensures { λ r. ⌜ r ≡ meaning.weighing profile state command ⌝ }
 {
+    let weighing = state.weighing;
     if may_wait(command) {
         return begun(
-            scale_of(profile),
+            scale_of(profile, weighing),
             sending_as(state, Mode::Off),
             Pending::Weigh,
         );
     }
-    let weighing = state.weighing;
     answered(
         sending_as(state, mode_after(command)),
-        weighed_by(scale_of(profile), weighing),
+        weighed_by(scale_of(profile, weighing), weighing),
     )
 }
 
@@ -105,13 +106,18 @@ fn run_weighing(profile: Profile, state: State, command: u8) -> Reaction
 fn run_zeroing(profile: Profile, state: State, command: u8) -> Reaction
     ensures { λ r. ⌜ r ≡ meaning.zeroing profile state command ⌝ }
 {
-    if may_wait(command) {
-        return begun(scale_of(profile), state, Pending::Zero);
-    }
     let weighing = state.weighing;
+    if may_wait(command) {
+        return begun(scale_of(profile, weighing), state, Pending::Zero);
+    }
     measured_reaction(
         state,
-        zeroed_by(scale_of(profile), weighing, ZI, stability(weighing)),
+        zeroed_by(
+            scale_of(profile, weighing),
+            weighing,
+            ZI,
+            stability(weighing),
+        ),
     )
 }
 
@@ -164,10 +170,10 @@ fn run_taring(profile: Profile, state: State, command: u8) -> Reaction
 {
     let weighing = state.weighing;
     if command == T {
-        return begun(scale_of(profile), state, Pending::Tare);
+        return begun(scale_of(profile, weighing), state, Pending::Tare);
     }
     if command == TI {
-        return measured_reaction(state, tared_by(scale_of(profile), weighing, TI));
+        return measured_reaction(state, tared_by(scale_of(profile, weighing), weighing, TI));
     }
     if command == TAC {
         let cleared = with_tare(weighing, NO_TARE);
@@ -175,7 +181,7 @@ fn run_taring(profile: Profile, state: State, command: u8) -> Reaction
     }
     if command == TA {
         let tare = weighing.tare;
-        return answered(state, tare_answer(profile, tare));
+        return answered(state, tare_answer(resolution_in(profile, weighing), tare));
     }
     unanswered(state)
 }
@@ -183,6 +189,7 @@ fn run_taring(profile: Profile, state: State, command: u8) -> Reaction
 pub fn run(profile: Profile, state: State, command: u8) -> Reaction
     ensures { λ r. ⌜ r ≡ meaning.run profile state command ⌝ }
 {
+    let weighing = state.weighing;
     let kind = kind_of(command);
     match kind {
         Kind::Informs => informed(state, command),
@@ -191,7 +198,7 @@ pub fn run(profile: Profile, state: State, command: u8) -> Reaction
         Kind::Resets => unanswered(state),
         Kind::Shows => run_showing(state, command),
         Kind::Sends => begun(
-            scale_of(profile),
+            scale_of(profile, weighing),
             with_change(state, NO_THRESHOLD),
             Pending::Change,
         ),

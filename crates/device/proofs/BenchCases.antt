@@ -8,9 +8,10 @@ use mathlib.Core.List.{List, [], _∷_, _++_, map}
 use lib.IntN.{ℤ, pos, negsuc}
 use Rattle.answer.specs.Lines.{lineEnd, headText, weightText, lineOf}
 use Rattle.device.specs.Calls.{answerBytes}
-use Rattle.weighing.specs.Weighings.{weighed}
+use Rattle.weighing.specs.Weighings.{weighed, weighedBy}
 use Rattle.model.specs.declared.profile.Profile.{Profile}
 use Rattle.model.specs.declared.weighing.Weighing.{Weighing}
+use Rattle.model.specs.Profiles.{resolutionIn}
 use Rattle.profiles.specs.ProfileA.{profileWith}
 use Rattle.text.specs.Ascii.{ascii}
 use Rattle.weight.specs.Places.{lastDigits, digitsIn, digitsOf, decimalOf, numberText, widthOf, fitsField}
@@ -64,8 +65,9 @@ pub bench-cases : map answered cases ≡ map (λ (c : Case). ascii (c .text) ++ 
 unfolding
     cases
     answered
+    resolutionIn
     answerBytes
-    weighed
+    weighedBy
     lineOf
     headText
     weightText

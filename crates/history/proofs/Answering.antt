@@ -2,7 +2,7 @@
 -- a line ends and where a sample ends a wait.
 -- Assumes nothing.
 use Prim.Native.Nat.{ℕ, _≤_}
-use mathlib.Core.Path.{_≡_, refl, sym, _∙_}
+use mathlib.Core.Path.{_≡_, refl, sym, ap, _∙_}
 use mathlib.Core.Bool.{Bool, true, false, not, _||_, and-false, or-true}
 use mathlib.Core.List.{List}
 use lib.IntN.{pos, negℤ, natAbs}
@@ -13,25 +13,28 @@ use Rattle.answer.specs.declared.answer.Status.{Status}
 use Rattle.answer.specs.declared.answer.Status.the-variants.{A}
 use Rattle.model.specs.declared.profile.Profile.{Profile}
 use Rattle.model.specs.declared.weighing.Weighing.{Weighing}
+use Rattle.weighing.proofs.InForce.{resolution-tared}
 use Rattle.weighing.proofs.Reach.{between}
 use Rattle.answer.specs.Lines.{headOf}
-use Rattle.weighing.specs.Weighings.{stability, grossOf, netOf, numberOf, inLimits, chosenWeighing, weighed, zeroed, tared, withZero, withTare, tareAnswer}
+use Rattle.weighing.specs.Weighings.{stability, grossOf, netOf, numberIn, inLimits, chosenWeighing, weighed, zeroed, tared, withZero, withTare, tareAnswer, zeroedBy, weighedBy, taredBy}
 use Rattle.device.specs.Calls.{answerBytes}
-use Rattle.model.specs.Profiles.{profileAllowed}
+use Rattle.model.specs.Profiles.{profileAllowed, resolutionIn}
 use Rattle.text.specs.Ascii.{ascii, sameText}
 use Rattle.text.specs.Field.{fieldOf}
 use Rattle.text.specs.Reading.{isDecimal}
+use Rattle.weight.specs.declared.rounding.Resolution.{Resolution}
 use Rattle.weight.specs.Rounding.{exactFemtograms, halfUp, placesOf, Near}
 use Rattle.weight.specs.Printing.{printable}
-use Rattle.model.proofs.ProfileFacts.{allowed-profile}
+use Rattle.model.proofs.InForce.{allowed-in-force}
 use Rattle.weight.proofs.HalfStep.{rounded-exact}
 use Rattle.text.proofs.Named.{same-self}
 use Rattle.weight.proofs.Nearness.{near-refl}
-use Rattle.history.specs.Tally.{Tally, Input, taken, ends, endedText, typedText, typedTare, tenOf, tellsTare, grantsTyped, afterReset, tallied, holds}
+use Rattle.history.specs.Tally.{Tally, Input, inForce, taken, ends, endedText, typedText, typedTare, tenOf, tellsTare, grantsTyped, afterReset, tallied, holds}
 use Rattle.history.specs.TypedTares.{typedField, showsTyped}
 use Rattle.history.proofs.AnswerKinds.{Denied, Silent, Zeroes, Tares, Weighs, over-denied, under-denied, weighed-weighs, cleared-clears, told-tells}
 use Rattle.history.proofs.DueWeights.{net-printable, gross-printable, tare-printable}
-use Rattle.history.proofs.Following.{Follows, is-loaded, latest-is, gross-is, net-near, tare-near}
+use Rattle.history.proofs.Following.{Follows, is-loaded, latest-is, gross-is, net-near, same-in-force, tare-near}
+use Rattle.history.proofs.InForce.{in-force-taken}
 use Rattle.history.proofs.Tallying.{after-denied, after-zeroes, after-tares, after-clears, after-typed, after-told, after-weighs, silent-holds, denied-holds, zeroes-holds, clears-holds, weighs-holds, tares-holds, told-holds, typed-holds}
 use Rattle.history.proofs.SentAnswers.{in-limits}
 use Rattle.history.proofs.WeightLines.{Shows, weighed-shows, told-shows}
@@ -52,9 +55,9 @@ unfolding showsTyped
 alone-shown p t i l e = rw (e, and-false (tellsTare l))
 
 -- the ten characters that are due
-due-shown : (p : Profile) (t : Tally) (i : Input) (l : List ℕ) → tenOf l ≡ typedField p (endedText t i) → showsTyped p t i l ≡ true
+due-shown : (p : Profile) (t : Tally) (i : Input) (l : List ℕ) → tenOf l ≡ typedField (inForce p t) (endedText t i) → showsTyped p t i l ≡ true
 unfolding showsTyped
-due-shown p t i l e = rw (e, same-self (typedField p (endedText t i))) (or-true (not (grantsTyped t i l)))
+due-shown p t i l e = rw (e, same-self (typedField (inForce p t) (endedText t i))) (or-true (not (grantsTyped t i l)))
 
 -- an answer that grants and weighs nothing
 pub answered-silent : (p : Profile) (t : Tally) (i : Input) (w : Weighing) (l : List ℕ) → Follows w (afterReset t i (taken t i)) → Silent l → Answered p t i w l
@@ -112,7 +115,7 @@ module _ (p : Profile) (t : Tally) (i : Input) (w : Weighing) (not-reset : after
       → Zeroes (answerBytes p (Plain (headOf c granted)))
       → w .sampled ≡ true
       → Answered p t i (zeroed p w c granted .weighing) (answerBytes p (zeroed p w c granted .answer))
-  unfolding zeroed
+  unfolding zeroedBy
   answered-zeroed c granted k sampled =
       zeroed-by (ltZ (pos (p .zeroing)) (w .load .0)) (ltZ (w .load .0) (negℤ (pos (p .zeroing)))) c granted k sampled
 
@@ -135,18 +138,19 @@ module _ (p : Profile) (t : Tally) (i : Input) (w : Weighing) (not-reset : after
     net-told
         : (l : List ℕ)
         → Weighs l
-        → Shows p (netOf w) l
+        → Shows (resolutionIn p w) (netOf w) l
         → w .sampled ≡ true
         → Answered p t i w l
     net-told l k s sampled =
+        let g : Follows w (tallied p t i l) = rw (after-weighs p t i l k, not-reset) f in
         record {
           accepted =
-              weighs-holds p t i l (netOf w) s
-              (rw (after-weighs p t i l k, not-reset, k .net-is) (net-near p (allowed-profile p allowed .resolution) w (taken t i) f sampled))
+              weighs-holds p t i l (resolutionIn p w) (same-in-force p w (tallied p t i l) g) (netOf w) s
+              (rw (k .net-is) (net-near (resolutionIn p w) (allowed-in-force p allowed w) w (tallied p t i l) g sampled))
               k
               (is-loaded w (taken t i) f sampled);
           shown = untold-shown p t i l (k .told-is);
-          follows = rw (after-weighs p t i l k, not-reset) f;
+          follows = g;
         }
 
     -- S, SI, SIR
@@ -154,15 +158,15 @@ module _ (p : Profile) (t : Tally) (i : Input) (w : Weighing) (not-reset : after
         : w .tare .0 ≤ p .capacity
         → w .sampled ≡ true
         → Answered p t i w (answerBytes p (weighed p w))
-    unfolding weighed
+    unfolding weighedBy
     answered-weighed range sampled =
         in-limits (λ a. Answered p t i w (answerBytes p a)) placeS (ltZ (pos (p .capacity)) (grossOf w)) (ltZ (grossOf w) (negℤ (pos (p .underload))))
-        (Weight (headOf placeS (stability w)) (numberOf p (netOf w)))
+        (Weight (headOf placeS (stability w)) (numberIn (resolutionIn p w) (netOf w)))
         (answered-denied _ (over-denied p placeS) sampled)
         (answered-denied _ (under-denied p placeS) sampled)
         (λ o u.
-        net-told _ (weighed-weighs p (w .stable) (numberOf p (netOf w)))
-        (weighed-shows p (netOf w) (net-printable p allowed (grossOf w) (w .tare .0) o u range) (w .stable))
+        net-told _ (weighed-weighs p (w .stable) (numberIn (resolutionIn p w) (netOf w)))
+        (weighed-shows p (resolutionIn p w) (netOf w) (net-printable p allowed w (grossOf w) (w .tare .0) o u range) (w .stable))
         sampled)
 
     -- the tare becomes gross, which has no sign
@@ -177,13 +181,15 @@ module _ (p : Profile) (t : Tally) (i : Input) (w : Weighing) (not-reset : after
             rounded = rw (gross-is w (taken t i) f sampled) (sym (rounded-exact (grossOf w)));
           })
 
-      tare-granted : Shows p (grossOf w) l → Answered p t i (withTare w (natAbs (grossOf w))) l
+      tare-granted : Shows (resolutionIn p w) (grossOf w) l → Answered p t i (withTare w (natAbs (grossOf w))) l
       tare-granted s =
           record {
             accepted =
-                tares-holds p t i l (grossOf w) s
+                tares-holds p t i l (resolutionIn p w)
+                (sym (resolution-tared p w (natAbs (grossOf w))) ∙ same-in-force p (withTare w (natAbs (grossOf w))) (tallied p t i l) tare-followed)
+                (grossOf w) s
                 (rw (k .net-is)
-                (rw natural at (tare-near p (allowed-profile p allowed .resolution) (withTare w (natAbs (grossOf w))) (tallied p t i l) tare-followed)))
+                (rw natural at (tare-near (resolutionIn p w) (allowed-in-force p allowed w) (withTare w (natAbs (grossOf w))) (tallied p t i l) tare-followed)))
                 k
                 (is-loaded w (taken t i) f sampled);
             shown = untold-shown p t i l (k .told-is);
@@ -195,24 +201,24 @@ module _ (p : Profile) (t : Tally) (i : Input) (w : Weighing) (not-reset : after
         : (over under : Bool) (c : ℕ)
         → ltZ (pos (p .capacity)) (grossOf w) ≡ over
         → ltZ (grossOf w) (pos 0) ≡ under
-        → Tares (answerBytes p (Weight (headOf c (stability w)) (numberOf p (grossOf w))))
-        → (printable (p .resolution) (grossOf w) ≡ true → Shows p (grossOf w) (answerBytes p (Weight (headOf c (stability w)) (numberOf p (grossOf w)))))
+        → Tares (answerBytes p (Weight (headOf c (stability w)) (numberIn (resolutionIn p w) (grossOf w))))
+        → (printable (resolutionIn p w) (grossOf w) ≡ true → Shows (resolutionIn p w) (grossOf w) (answerBytes p (Weight (headOf c (stability w)) (numberIn (resolutionIn p w) (grossOf w)))))
         → w .sampled ≡ true
         → Answered p t i (chosenWeighing (over || under) w (withTare w (natAbs (grossOf w))))
-        (answerBytes p (inLimits c over under (Weight (headOf c (stability w)) (numberOf p (grossOf w)))))
+        (answerBytes p (inLimits c over under (Weight (headOf c (stability w)) (numberIn (resolutionIn p w) (grossOf w)))))
     tared-by true under c o u k s sampled = answered-denied _ (over-denied p c) sampled
     tared-by false true c o u k s sampled = answered-denied _ (under-denied p c) sampled
     tared-by false false c o u k s sampled =
-        tare-granted _ k sampled (between (grossOf w) (p .capacity) o u .0) (s (gross-printable p allowed (grossOf w) o u))
+        tare-granted _ k sampled (between (grossOf w) (p .capacity) o u .0) (s (gross-printable p allowed w (grossOf w) o u))
 
     -- T, TI
     pub answered-tared
         : (c : ℕ)
-        → Tares (answerBytes p (Weight (headOf c (stability w)) (numberOf p (grossOf w))))
-        → (printable (p .resolution) (grossOf w) ≡ true → Shows p (grossOf w) (answerBytes p (Weight (headOf c (stability w)) (numberOf p (grossOf w)))))
+        → Tares (answerBytes p (Weight (headOf c (stability w)) (numberIn (resolutionIn p w) (grossOf w))))
+        → (printable (resolutionIn p w) (grossOf w) ≡ true → Shows (resolutionIn p w) (grossOf w) (answerBytes p (Weight (headOf c (stability w)) (numberIn (resolutionIn p w) (grossOf w)))))
         → w .sampled ≡ true
         → Answered p t i (tared p w c .weighing) (answerBytes p (tared p w c .answer))
-    unfolding tared
+    unfolding taredBy
     answered-tared c k s sampled = tared-by (ltZ (pos (p .capacity)) (grossOf w)) (ltZ (grossOf w) (pos 0)) c refl refl k s sampled
 
     -- TA alone
@@ -220,16 +226,16 @@ module _ (p : Profile) (t : Tally) (i : Input) (w : Weighing) (not-reset : after
         : ends t i ≡ true
         → sameText (endedText t i) (ascii "TA") ≡ true
         → w .tare .0 ≤ p .capacity
-        → Answered p t i w (answerBytes p (tareAnswer p (w .tare .0)))
+        → Answered p t i w (answerBytes p (tareAnswer (resolutionIn p w) (w .tare .0)))
     answered-told end alone range =
-        let k = told-tells p (numberOf p (pos (w .tare .0))) in
-        let l = answerBytes p (tareAnswer p (w .tare .0)) in
+        let k = told-tells p (numberIn (resolutionIn p w) (pos (w .tare .0))) in
+        let l = answerBytes p (tareAnswer (resolutionIn p w) (w .tare .0)) in
         let g : Follows w (tallied p t i l) = rw (after-told p t i l k alone, not-reset) f in
         record {
           accepted =
-              told-holds p t i l (pos (w .tare .0))
-              (told-shows p (pos (w .tare .0)) (tare-printable p allowed (w .tare .0) range))
-              (rw (k .net-is) (tare-near p (allowed-profile p allowed .resolution) w (tallied p t i l) g))
+              told-holds p t i l (resolutionIn p w) (same-in-force p w (tallied p t i l) g) (pos (w .tare .0))
+              (told-shows p (resolutionIn p w) (pos (w .tare .0)) (tare-printable p allowed w (w .tare .0) range))
+              (rw (k .net-is) (tare-near (resolutionIn p w) (allowed-in-force p allowed w) w (tallied p t i l) g))
               k
               end
               alone;
@@ -243,26 +249,27 @@ module _ (p : Profile) (t : Tally) (i : Input) (w : Weighing) (not-reset : after
         → ends t i ≡ true
         → sameText (endedText t i) (ascii "TA") ≡ false
         → isDecimal (typedText (endedText t i)) ≡ true
-        → Near 1_000_000_000 (exactFemtograms (pos m)) (typedTare p (endedText t i))
-        → m ≡ halfUp (natAbs (typedTare p (endedText t i))) 1_000_000_000
-        → fieldOf (p .resolution .decimals) (placesOf (p .resolution) (pos m)) ≡ typedField p (endedText t i)
+        → Near 1_000_000_000 (exactFemtograms (pos m)) (typedTare (resolutionIn p w) (endedText t i))
+        → m ≡ halfUp (natAbs (typedTare (resolutionIn p w) (endedText t i))) 1_000_000_000
+        → fieldOf (resolutionIn p w .decimals) (placesOf (resolutionIn p w) (pos m)) ≡ typedField (resolutionIn p w) (endedText t i)
         → m ≤ p .capacity
-        → Answered p t i (withTare w m) (answerBytes p (tareAnswer p m))
+        → Answered p t i (withTare w m) (answerBytes p (tareAnswer (resolutionIn p w) m))
     answered-typed m end other decimal off rounded printed range =
-        let k = told-tells p (numberOf p (pos m)) in
-        let l = answerBytes p (tareAnswer p m) in
-        let s : Shows p (pos m) l = told-shows p (pos m) (tare-printable p allowed m range) in
+        let k = told-tells p (numberIn (resolutionIn p w) (pos m)) in
+        let l = answerBytes p (tareAnswer (resolutionIn p w) m) in
+        let s : Shows (resolutionIn p w) (pos m) l = told-shows p (resolutionIn p w) (pos m) (tare-printable p allowed w m range) in
+        let before : resolutionIn p w ≡ inForce p t = same-in-force p w (taken t i) f ∙ in-force-taken p t i in
         let g : Follows (withTare w m) (tallied p t i l) =
-        rw (after-typed p t i l k other, not-reset) (record { latest = f .latest; zero = f .zero; tare = off; rounded = rounded }) in
+        rw (after-typed p t i l k other, not-reset, ← before) (record { latest = f .latest; zero = f .zero; tare = off; rounded = rounded }) in
         record {
           accepted =
-              typed-holds p t i l (pos m)
+              typed-holds p t i l (resolutionIn p w) (sym (resolution-tared p w m) ∙ same-in-force p (withTare w m) (tallied p t i l) g) (pos m)
               s
-              (rw (k .net-is) (tare-near p (allowed-profile p allowed .resolution) (withTare w m) (tallied p t i l) g))
+              (rw (k .net-is) (tare-near (resolutionIn p w) (allowed-in-force p allowed w) (withTare w m) (tallied p t i l) g))
               k
               end
               other
               decimal;
-          shown = due-shown p t i l (s .ten ∙ printed);
+          shown = due-shown p t i l (s .ten ∙ printed ∙ ap (λ (r : Resolution). typedField r (endedText t i)) before);
           follows = g;
         }

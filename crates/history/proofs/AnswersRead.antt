@@ -26,16 +26,18 @@ use Rattle.model.specs.declared.state.Pending.the-variants.{Nothing, Weigh, Zer
 use Rattle.model.specs.declared.state.State.{State}
 use Rattle.weight.specs.declared.loads.Load.{Load}
 use Rattle.model.specs.declared.weighing.Weighing.{Weighing}
-use Rattle.model.specs.Profiles.{profileAllowed, textOf20, textOf40, textAllowed20, textAllowed40}
+use Rattle.model.specs.Profiles.{profileAllowed, resolutionIn, textOf20, textOf40, textAllowed20, textAllowed40}
 use Rattle.commands.specs.Reactions.{weighing, zeroing, run, changing, identificationOf, performed, byteReaction, sendingAs, situationOf}
 use Rattle.commands.proofs.Ways.{by-choice, run-cases, change-cases, sample-cases}
 use Rattle.model.specs.declared.sending.Mode.the-variants.{Off}
 use Rattle.model.specs.Groups.{withLine, withSending}
 use Rattle.waiting.specs.Changes.{withThreshold}
-use Rattle.waiting.specs.Waits.{placeOfPending, sampledState, settled, settledReaction, begun, sampleReaction}
+use Rattle.waiting.specs.Waits.{placeOfPending, sampledState, settled, begun, sampleReaction, begunBy, settledReactionBy}
+use Rattle.waiting.proofs.InForce.{resolution-settled}
+use Rattle.weighing.proofs.InForce.{resolution-after-tare, resolution-tared}
 use Rattle.weighing.proofs.Reach.{not-negative}
 use Rattle.answer.specs.Lines.{headOf}
-use Rattle.weighing.specs.Weighings.{stability, grossOf, netOf, numberOf, weighed, withSample, zeroed, tared, tareAnswer}
+use Rattle.weighing.specs.Weighings.{stability, grossOf, netOf, numberIn, weighed, withSample, zeroed, tared, tareAnswer, taredBy, zeroedBy, weighedBy}
 use Rattle.model.proofs.ProfileFacts.{AllowedProfile, allowed-profile, text-short}
 use Rattle.history.proofs.AnswerKinds.{Tests, weighed-weighs, tared-tares, tared-now-tares, told-tells}
 use Rattle.history.proofs.DueWeights.{net-printable, gross-printable, tare-printable}
@@ -76,22 +78,22 @@ form40 c t place first e =
       both-right (leb (t .len) 40) (isPrintable (textOf40 t)) e,
     )
 
-module _ (p : Profile) (allowed : profileAllowed p ≡ true) where
+module _ (p : Profile) (allowed : profileAllowed p ≡ true) (r : Resolution) where
   abbrev facts : AllowedProfile p
   facts = allowed-profile p allowed
 
   -- I2 to I5, whose texts the profile allows
-  information-read : (c : ℕ) → hasText c ≡ true → ReadByHost p (answers.Text c)
+  information-read : (c : ℕ) → hasText c ≡ true → ReadByHost p r (answers.Text c)
   information-read zero h = absurd (false≢true h)
   information-read (suc zero) h = absurd (false≢true h)
-  information-read (suc (suc zero)) h = text-read p 2 (form40 2 (p .model) refl refl (facts .model))
-  information-read (suc (suc (suc zero))) h = text-read p 3 (form40 3 (p .software) refl refl (facts .software))
-  information-read (suc (suc (suc (suc zero)))) h = text-read p 4 (form20 4 (p .serial) refl (facts .serial))
-  information-read (suc (suc (suc (suc (suc zero))))) h = text-read p 5 (form20 5 (p .release) refl (facts .release))
+  information-read (suc (suc zero)) h = text-read p r 2 (form40 2 (p .model) refl refl (facts .model))
+  information-read (suc (suc (suc zero))) h = text-read p r 3 (form40 3 (p .software) refl refl (facts .software))
+  information-read (suc (suc (suc (suc zero)))) h = text-read p r 4 (form20 4 (p .serial) refl (facts .serial))
+  information-read (suc (suc (suc (suc (suc zero))))) h = text-read p r 5 (form20 5 (p .release) refl (facts .release))
   information-read (suc (suc (suc (suc (suc (suc c)))))) h = absurd (omega (arith, leb-true (suc (suc (suc (suc (suc (suc c)))))) placeI5 (both-right (leb placeI2 (suc (suc (suc (suc (suc (suc c))))))) (leb (suc (suc (suc (suc (suc (suc c)))))) placeI5) h)))
 
   -- I4, which power-on and @ send
-  pub serial-read : ReadByHost p (answers.Text placeI4)
+  pub serial-read : ReadByHost p r (answers.Text placeI4)
   serial-read = information-read placeI4 refl
 
 -- ---- weights
@@ -114,72 +116,78 @@ tare-weight l k = rw (k .tare-is, or-true (tellsNet l))
 told-weight : {zero tare clear net limit : Bool} (l : List ℕ) → Tests zero tare clear true net limit l → isWeightAnswer l ≡ true
 told-weight l k = rw (k .told-is, or-true (tellsNet l || grantsTare l))
 
-module _ (p : Profile) (allowed : profileAllowed p ≡ true) where
+module _ (p : Profile) (r : Resolution) where
   -- S S, S D
-  net-form : (stable : Bool) (w : ℤ) → printable (p .resolution) w ≡ true → ReadByHost p (Weight (headOf placeS (cond stable S D)) (numberOf p w))
+  net-form : (stable : Bool) (w : ℤ) → printable r w ≡ true → ReadByHost p r (Weight (headOf placeS (cond stable S D)) (numberIn r w))
   net-form true w fits =
-      weight-read p w fits placeS S refl refl (net-weight _ (weighed-weighs p true (numberOf p w))) (weighed-shows p w fits true)
+      weight-read p r w fits placeS S refl refl (net-weight _ (weighed-weighs p true (numberIn r w))) (weighed-shows p r w fits true)
   net-form false w fits =
-      weight-read p w fits placeS D refl refl (net-weight _ (weighed-weighs p false (numberOf p w))) (weighed-shows p w fits false)
+      weight-read p r w fits placeS D refl refl (net-weight _ (weighed-weighs p false (numberIn r w))) (weighed-shows p r w fits false)
 
   -- TI S, TI D
-  tare-form : (stable : Bool) (w : ℤ) → printable (p .resolution) w ≡ true → nonNeg w ≡ true → ReadByHost p (Weight (headOf placeTI (cond stable S D)) (numberOf p w))
+  tare-form : (stable : Bool) (w : ℤ) → printable r w ≡ true → nonNeg w ≡ true → ReadByHost p r (Weight (headOf placeTI (cond stable S D)) (numberIn r w))
   tare-form true w fits sign =
-      weight-read p w fits placeTI S refl (natural-printed (p .resolution) w sign) (tare-weight _ (tared-now-tares p true (numberOf p w))) (tared-now-shows p w fits true)
+      weight-read p r w fits placeTI S refl (natural-printed r w sign) (tare-weight _ (tared-now-tares p true (numberIn r w))) (tared-now-shows p r w fits true)
   tare-form false w fits sign =
-      weight-read p w fits placeTI D refl (natural-printed (p .resolution) w sign) (tare-weight _ (tared-now-tares p false (numberOf p w))) (tared-now-shows p w fits false)
+      weight-read p r w fits placeTI D refl (natural-printed r w sign) (tare-weight _ (tared-now-tares p false (numberIn r w))) (tared-now-shows p r w fits false)
 
   -- T S
-  settled-form : (w : ℤ) → printable (p .resolution) w ≡ true → nonNeg w ≡ true → ReadByHost p (Weight (headOf placeT S) (numberOf p w))
-  settled-form w fits sign =
-      weight-read p w fits placeT S refl (natural-printed (p .resolution) w sign) (tare-weight _ (tared-tares p (numberOf p w))) (tared-shows p w fits)
+  settled-form : (stable : Bool) → stable ≡ true → (w : ℤ) → printable r w ≡ true → nonNeg w ≡ true
+      → ReadByHost p r (Weight (headOf placeT (cond stable S D)) (numberIn r w))
+  settled-form stable e w fits sign =
+      rw e
+      (weight-read p r w fits placeT S refl (natural-printed r w sign) (tare-weight _ (tared-tares p (numberIn r w))) (tared-shows p r w fits))
 
-  -- TA
-  told-read : (n : ℕ) → n ≤ p .capacity → ReadByHost p (tareAnswer p n)
-  told-read n range =
-      let fits = tare-printable p allowed n range in
-      weight-read p (pos n) fits placeTA A refl (natural-printed (p .resolution) (pos n) refl) (told-weight _ (told-tells p (numberOf p (pos n)))) (told-shows p (pos n) fits)
+-- TA
+told-read : (p : Profile) → profileAllowed p ≡ true → (w : Weighing) (n : ℕ) → n ≤ p .capacity
+    → ReadByHost p (resolutionIn p w) (tareAnswer (resolutionIn p w) n)
+told-read p allowed w n range =
+    let r = resolutionIn p w in
+    let fits = tare-printable p allowed w n range in
+    weight-read p r (pos n) fits placeTA A refl (natural-printed r (pos n) refl) (told-weight _ (told-tells p (numberIn r (pos n)))) (told-shows p r (pos n) fits)
 
 -- ---- S, Z, T and SR
 
 module _ (p : Profile) (allowed : profileAllowed p ≡ true) (w : Weighing) (range : w .tare .0 ≤ p .capacity) where
   -- S, SI, SIR
-  weighed-read : ReadByHost p (weighed p w)
-  unfolding weighed
+  weighed-read : ReadByHost p (resolutionIn p w) (weighed p w)
+  unfolding weighedBy
   weighed-read =
-      in-limits (ReadByHost p) placeS (ltZ (pos (p .capacity)) (grossOf w)) (ltZ (grossOf w) (negℤ (pos (p .underload))))
-      (Weight (headOf placeS (stability w)) (numberOf p (netOf w)))
-      (plain-read p placeS Over refl)
-      (plain-read p placeS Under refl)
-      (λ o u. net-form p allowed (w .stable) (netOf w) (net-printable p allowed (grossOf w) (w .tare .0) o u range))
+      in-limits (ReadByHost p (resolutionIn p w)) placeS (ltZ (pos (p .capacity)) (grossOf w)) (ltZ (grossOf w) (negℤ (pos (p .underload))))
+      (Weight (headOf placeS (stability w)) (numberIn (resolutionIn p w) (netOf w)))
+      (plain-read p _ placeS Over refl)
+      (plain-read p _ placeS Under refl)
+      (λ o u. net-form p (resolutionIn p w) (w .stable) (netOf w) (net-printable p allowed w (grossOf w) (w .tare .0) o u range))
 
   -- Z, ZI
-  zeroed-read : (c : ℕ) (granted : Status) → plainForm c Over ≡ true → plainForm c Under ≡ true → plainForm c granted ≡ true
-      → ReadByHost p (zeroed p w c granted .answer)
-  unfolding zeroed
-  zeroed-read c granted o u g =
-      in-limits (ReadByHost p) c (ltZ (pos (p .zeroing)) (w .load .0)) (ltZ (w .load .0) (negℤ (pos (p .zeroing)))) (Plain (headOf c granted))
-      (plain-read p c Over o)
-      (plain-read p c Under u)
-      (λ over under. plain-read p c granted g)
+  zeroed-read : (r : Resolution) (c : ℕ) (granted : Status) → plainForm c Over ≡ true → plainForm c Under ≡ true → plainForm c granted ≡ true
+      → ReadByHost p r (zeroed p w c granted .answer)
+  unfolding zeroedBy
+  zeroed-read r c granted o u g =
+      in-limits (ReadByHost p r) c (ltZ (pos (p .zeroing)) (w .load .0)) (ltZ (w .load .0) (negℤ (pos (p .zeroing)))) (Plain (headOf c granted))
+      (plain-read p _ c Over o)
+      (plain-read p _ c Under u)
+      (λ over under. plain-read p _ c granted g)
 
   -- T, TI
   tared-read : (c : ℕ) → plainForm c Over ≡ true → plainForm c Under ≡ true
-      → (printable (p .resolution) (grossOf w) ≡ true → nonNeg (grossOf w) ≡ true → ReadByHost p (Weight (headOf c (stability w)) (numberOf p (grossOf w))))
-      → ReadByHost p (tared p w c .answer)
-  unfolding tared
+      → (printable (resolutionIn p w) (grossOf w) ≡ true → nonNeg (grossOf w) ≡ true
+      → ReadByHost p (resolutionIn p w) (Weight (headOf c (stability w)) (numberIn (resolutionIn p w) (grossOf w))))
+      → ReadByHost p (resolutionIn p w) (tared p w c .answer)
+  unfolding taredBy
   tared-read c o u h =
-      in-limits (ReadByHost p) c (ltZ (pos (p .capacity)) (grossOf w)) (ltZ (grossOf w) (pos 0)) (Weight (headOf c (stability w)) (numberOf p (grossOf w)))
-      (plain-read p c Over o)
-      (plain-read p c Under u)
-      (λ over under. h (gross-printable p allowed (grossOf w) over under) (not-negative (grossOf w) refl under))
+      in-limits (ReadByHost p (resolutionIn p w)) c (ltZ (pos (p .capacity)) (grossOf w)) (ltZ (grossOf w) (pos 0))
+      (Weight (headOf c (stability w)) (numberIn (resolutionIn p w) (grossOf w)))
+      (plain-read p _ c Over o)
+      (plain-read p _ c Under u)
+      (λ over under. h (gross-printable p allowed w (grossOf w) over under) (not-negative (grossOf w) refl under))
 
   -- what a waiting command answers at a stable sample
-  settled-read : (pending : Pending) → w .stable ≡ true → ReadByHost p (settled p pending w .answer)
-  settled-read Nothing stable = nothing-read p
+  settled-read : (pending : Pending) → w .stable ≡ true → ReadByHost p (resolutionIn p w) (settled p pending w .answer)
+  settled-read Nothing stable = nothing-read p _
   settled-read Weigh stable = weighed-read
-  settled-read Zero stable = zeroed-read placeZ A refl refl refl
-  settled-read Tare stable = tared-read placeT refl refl (λ fits sign. rw stable (settled-form p allowed (grossOf w) fits sign))
+  settled-read Zero stable = zeroed-read (resolutionIn p w) placeZ A refl refl refl
+  settled-read Tare stable = tared-read placeT refl refl (λ fits sign. settled-form p (resolutionIn p w) (w .stable) stable (grossOf w) fits sign)
   settled-read Change stable = weighed-read
 
 -- ZI with S or D
@@ -189,18 +197,20 @@ stability-form false = refl
 
 -- ---- a command's own rule
 
--- the host reads the answer of a reaction
+-- the host reads the answer of a reaction, in the resolution in force after it
 abbrev ReadIn : Profile → Reaction → Type 0
-ReadIn p r = ReadByHost p (r .answer)
+ReadIn p x = ReadByHost p (resolutionIn p (x .state .weighing)) (x .answer)
 
 module _ (p : Profile) (allowed : profileAllowed p ≡ true) (s : State) (range : s .weighing .tare .0 ≤ p .capacity) where
   -- judged at once, or waiting without an answer
   begun-read : (pending : Pending) → ReadIn p (begun p s pending)
-  unfolding begun settledReaction
+  unfolding begunBy settledReactionBy
   begun-read pending =
       by-choice (ReadIn p) (s .weighing .sampled && s .weighing .stable)
-      (λ e. settled-read p allowed (s .weighing) range pending (both-right (s .weighing .sampled) (s .weighing .stable) e))
-      (λ e. nothing-read p)
+      (λ e.
+      rw (resolution-settled p pending (s .weighing))
+      (settled-read p allowed (s .weighing) range pending (both-right (s .weighing .sampled) (s .weighing .stable) e)))
+      (λ e. nothing-read p _)
 
 module _ (p : Profile) (allowed : profileAllowed p ≡ true) (s : State) (range : s .weighing .tare .0 ≤ p .capacity) where
   -- SR
@@ -213,19 +223,21 @@ module _ (p : Profile) (allowed : profileAllowed p ≡ true) (s : State) (range 
   run-read : Ruled c → ReadIn p (run p s c)
   run-read ruled =
       run-cases (ReadIn p) p s c ruled
-      (list-read p)
-      (versions-read p)
-      (λ text. information-read p allowed c text)
+      (list-read p _)
+      (versions-read p _)
+      (λ text. information-read p allowed _ c text)
       (λ is. begun-read p allowed (sendingAs s Off) range Weigh)
       (λ needs now. weighed-read p allowed (s .weighing) range)
       (λ is. begun-read p allowed s range Zero)
-      (λ needs. zeroed-read p allowed (s .weighing) range placeZI (stability (s .weighing)) refl refl (stability-form (s .weighing .stable)))
-      (plain-read p placeDW A refl)
+      (λ needs. zeroed-read p allowed (s .weighing) range _ placeZI (stability (s .weighing)) refl refl (stability-form (s .weighing .stable)))
+      (plain-read p _ placeDW A refl)
       (λ is. change-read p allowed s range 0)
       (λ is. begun-read p allowed s range Tare)
-      (λ needs. tared-read p allowed (s .weighing) range placeTI refl refl (tare-form p allowed (s .weighing .stable) (grossOf (s .weighing))))
-      (plain-read p placeTAC A refl)
-      (λ is. told-read p allowed (s .weighing .tare .0) range)
+      (λ needs.
+      rw (resolution-after-tare p (s .weighing) placeTI)
+      (tared-read p allowed (s .weighing) range placeTI refl refl (tare-form p (resolutionIn p (s .weighing)) (s .weighing .stable) (grossOf (s .weighing)))))
+      (plain-read p _ placeTAC A refl)
+      (λ is. told-read p allowed (s .weighing) (s .weighing .tare .0) range)
 
 -- ---- a finished line
 
@@ -283,15 +295,15 @@ verdict-named p s f l held (Show n) h = tt
 module _ (p : Profile) (allowed : profileAllowed p ≡ true) (s : State) (range : s .weighing .tare .0 ≤ p .capacity) where
   -- what each verdict answers
   performed-read : (l : Line) (v : Verdict) → Named p v → ReadIn p (performed p s l v)
-  performed-read l (Erroneous e) named = error-read p e
-  performed-read l Reset named = serial-read p allowed
-  performed-read l (Busy c) named = plain-read p (identificationOf c) I named
-  performed-read l (Wrong c) named = plain-read p (identificationOf c) L named
-  performed-read l (NoSample c) named = plain-read p (identificationOf c) I named
+  performed-read l (Erroneous e) named = error-read p _ e
+  performed-read l Reset named = serial-read p allowed _
+  performed-read l (Busy c) named = plain-read p _ (identificationOf c) I named
+  performed-read l (Wrong c) named = plain-read p _ (identificationOf c) L named
+  performed-read l (NoSample c) named = plain-read p _ (identificationOf c) I named
   performed-read l (Run c) named = run-read p allowed s range c named
-  performed-read l (Preset m) named = told-read p allowed (m .0) named
+  performed-read l (Preset m) named = rw (resolution-tared p (s .weighing) (m .0)) (told-read p allowed (s .weighing) (m .0) named)
   performed-read l (verdicts.Change t) named = change-read p allowed s range (t .0)
-  performed-read l (Show n) named = plain-read p placeD A refl
+  performed-read l (Show n) named = plain-read p _ placeD A refl
 
 -- ---- a byte
 
@@ -308,7 +320,7 @@ module _ (p : Profile) (allowed : profileAllowed p ≡ true) (s : State) (range 
       performed-read p allowed (withLine s (clearedLine l)) range l v
       (verdict-named p s (finishedLine u) l held v
       (sym (holds-judged (situationOf p s) l (finishedLine u) held))))
-      (λ e. nothing-read p)
+      (λ e. nothing-read p _)
 
 -- ---- a sample
 
@@ -323,17 +335,19 @@ pending-form Change = refl
 module _ (p : Profile) (allowed : profileAllowed p ≡ true) (s : State) (range : s .weighing .tare .0 ≤ p .capacity) (z : Load) where
   -- the answer to a sample
   pub sample-read : (stable : Bool) → ReadIn p (sampleReaction p s z stable)
-  unfolding settledReaction
+  unfolding settledReactionBy
   sample-read stable =
       sample-cases (ReadIn p) p s z stable
-      (λ waits e. settled-read p allowed (withSample (s .weighing) z stable) range (s .waiting .pending) e)
-      (λ waits e most. plain-read p (placeOfPending (s .waiting .pending)) I (pending-form (s .waiting .pending)))
-      (λ waits e less. nothing-read p)
-      (λ none e. nothing-read p)
+      (λ waits e.
+      rw (resolution-settled p (s .waiting .pending) (withSample (s .weighing) z stable))
+      (settled-read p allowed (withSample (s .weighing) z stable) range (s .waiting .pending) e))
+      (λ waits e most. plain-read p _ (placeOfPending (s .waiting .pending)) I (pending-form (s .waiting .pending)))
+      (λ waits e less. nothing-read p _)
+      (λ none e. nothing-read p _)
       (λ none e. weighed-read p allowed (withSample (s .weighing) z stable) range)
       (λ none e.
       change-cases (ReadIn p) p (sampledState s z stable)
-      (λ out told. nothing-read p)
+      (λ out told. nothing-read p _)
       (λ out first. weighed-read p allowed (withSample (s .weighing) z stable) range)
       (λ inside due. weighed-read p allowed (withSample (s .weighing) z stable) range)
-      (λ inside due. nothing-read p))
+      (λ inside due. nothing-read p _))

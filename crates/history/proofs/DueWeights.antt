@@ -9,9 +9,10 @@ use lib.IntN.{ℤ, pos, negsuc, negℤ, natAbs, _-ℤ_}
 use lib.Signed.{leZ, ltZ}
 use Rattle.model.specs.declared.profile.Profile.{Profile}
 use Rattle.model.specs.declared.state.State.{State}
-use Rattle.model.specs.Profiles.{profileAllowed}
+use Rattle.model.specs.declared.weighing.Weighing.{Weighing}
+use Rattle.model.specs.Profiles.{profileAllowed, resolutionIn}
 use Rattle.model.specs.States.{stateAllowed}
-use Rattle.model.proofs.Nets.{nets-printable}
+use Rattle.model.proofs.InForce.{nets-printable}
 use Rattle.model.proofs.ProfileFacts.{allowed-profile}
 use Rattle.model.proofs.StateFacts.{allowed-state}
 use Rattle.weighing.proofs.Reach.{between, le-parts, parts-le, net-within}
@@ -24,12 +25,13 @@ use Rattle.weight.proofs.Nearness.{up, down, up-pos, down-pos, up-negated, down
 pub tare-range : (p : Profile) (s : State) → stateAllowed p s ≡ true → s .weighing .tare .0 ≤ p .capacity
 tare-range p s allowed = allowed-state p s allowed .tare
 
-module _ (p : Profile) (allowed : profileAllowed p ≡ true) where
+-- in the resolution of a weighing
+module _ (p : Profile) (allowed : profileAllowed p ≡ true) (w : Weighing) where
   -- a tare in its range
-  pub tare-printable : (tare : ℕ) → tare ≤ p .capacity → printable (p .resolution) (pos tare) ≡ true
+  pub tare-printable : (tare : ℕ) → tare ≤ p .capacity → printable (resolutionIn p w) (pos tare) ≡ true
   tare-printable tare range =
       let lowest = p .underload + p .capacity in
-      nets-printable p allowed (pos tare)
+      nets-printable p allowed w (pos tare)
       (parts-le (negℤ (pos lowest)) (pos tare)
       (omega (
         arith,
@@ -43,7 +45,7 @@ module _ (p : Profile) (allowed : profileAllowed p ≡ true) where
       (le-leb tare (p .capacity) range)
 
   -- a gross that neither T nor TI refuses
-  pub gross-printable : (gross : ℤ) → ltZ (pos (p .capacity)) gross ≡ false → ltZ gross (pos 0) ≡ false → printable (p .resolution) gross ≡ true
+  pub gross-printable : (gross : ℤ) → ltZ (pos (p .capacity)) gross ≡ false → ltZ gross (pos 0) ≡ false → printable (resolutionIn p w) gross ≡ true
   gross-printable gross over under =
       let natural = between gross (p .capacity) over under in
       rw (natural .0) at (tare-printable (natAbs gross) (natural .1))
@@ -54,10 +56,10 @@ module _ (p : Profile) (allowed : profileAllowed p ≡ true) where
       → ltZ (pos (p .capacity)) gross ≡ false
       → ltZ gross (negℤ (pos (p .underload))) ≡ false
       → tare ≤ p .capacity
-      → printable (p .resolution) (gross -ℤ pos tare) ≡ true
+      → printable (resolutionIn p w) (gross -ℤ pos tare) ≡ true
   net-printable gross tare over under range =
       let within = net-within p gross tare over under range in
-      nets-printable p allowed (gross -ℤ pos tare) (within .0) (within .1)
+      nets-printable p allowed w (gross -ℤ pos tare) (within .0) (within .1)
 
 -- no number between the ends is farther from zero than the lower one
 size-within : (net : ℤ) (lowest highest : ℕ) → highest ≤ lowest → leZ (negℤ (pos lowest)) net ≡ true → leZ net (pos highest) ≡ true → natAbs net ≤ lowest

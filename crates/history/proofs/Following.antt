@@ -9,12 +9,14 @@ use mathlib.Core.Bool.{Bool, true, false, cond}
 use lib.IntN.{ℤ, pos, _-ℤ_}
 use Rattle.model.specs.declared.profile.Profile.{Profile}
 use Rattle.model.specs.declared.weighing.Weighing.{Weighing}
+use Rattle.model.specs.Profiles.{resolutionIn}
 use Rattle.weighing.specs.Weighings.{grossOf, netOf}
+use Rattle.weight.specs.declared.rounding.Resolution.{Resolution}
 use Rattle.weight.specs.Rounding.{allowedResolution, stepFemtograms, printedFemtograms, exactFemtograms, placesOf, Near}
 use Rattle.weight.proofs.HalfStep.{half-step, exact-difference}
 use Rattle.weight.proofs.Nearness.{near-weaken, near-triangle, near-shift}
 use Rattle.history.specs.OnChange.{roundedTare}
-use Rattle.history.specs.Tally.{Tally, Latest, none, load, latestOf, isLoaded, allowance}
+use Rattle.history.specs.Tally.{Tally, Latest, none, load, inForce, latestOf, isLoaded, allowance}
 
 -- the latest load, as the tally keeps it
 abbrev pub latestIn : Weighing → Latest
@@ -25,6 +27,11 @@ pub record Follows (w : Weighing) (t : Tally) : Type 0 where
   pub zero : t .zero ≡ w .zero .0
   pub tare : Near (cond (t .typed) 1_000_000_000 0) (exactFemtograms (pos (w .tare .0))) (t .tare)
   pub rounded : w .tare .0 ≡ roundedTare t
+
+-- the module's resolution is the tally's
+pub same-in-force : (p : Profile) (w : Weighing) (t : Tally) → Follows w t → resolutionIn p w ≡ inForce p t
+unfolding resolutionIn inForce
+same-in-force p w t f = refl
 
 module _ (w : Weighing) (t : Tally) (f : Follows w t) (sampled : w .sampled ≡ true) where
   pub is-loaded : isLoaded t ≡ true
@@ -37,37 +44,37 @@ module _ (w : Weighing) (t : Tally) (f : Follows w t) (sampled : w .sampled ≡ 
   gross-is = ap₂ _-ℤ_ latest-is (f .zero)
 
 -- half a step, and half a microgram if the tare is typed, are within what the tally allows
-allowed-off : (p : Profile) (t : Tally) (typed : Bool) → t .typed ≡ typed
-    → stepFemtograms (p .resolution) + cond (t .typed) 1_000_000_000 0 ≤ allowance p t
-allowed-off p t true e = rw e (omega arith)
-allowed-off p t false e = rw e (omega arith)
+allowed-off : (r : Resolution) (t : Tally) (typed : Bool) → t .typed ≡ typed
+    → stepFemtograms r + cond (t .typed) 1_000_000_000 0 ≤ allowance r t
+allowed-off r t true e = rw e (omega arith)
+allowed-off r t false e = rw e (omega arith)
 
 -- the printed net is near the tally's, and the printed tare near its tare
-module _ (p : Profile) (allowed : allowedResolution (p .resolution) ≡ true) (w : Weighing) (t : Tally) (f : Follows w t) where
+module _ (r : Resolution) (allowed : allowedResolution r ≡ true) (w : Weighing) (t : Tally) (f : Follows w t) where
   -- within a bound that the allowance covers
-  covered : (a b : ℤ) → Near (stepFemtograms (p .resolution) + cond (t .typed) 1_000_000_000 0) a b → Near (allowance p t) a b
-  covered a b = near-weaken (stepFemtograms (p .resolution) + cond (t .typed) 1_000_000_000 0) (allowance p t) a b (allowed-off p t (t .typed) refl)
+  covered : (a b : ℤ) → Near (stepFemtograms r + cond (t .typed) 1_000_000_000 0) a b → Near (allowance r t) a b
+  covered a b = near-weaken (stepFemtograms r + cond (t .typed) 1_000_000_000 0) (allowance r t) a b (allowed-off r t (t .typed) refl)
 
   pub net-near
       : w .sampled ≡ true
-      → Near (allowance p t) (printedFemtograms (p .resolution) (placesOf (p .resolution) (netOf w))) (exactFemtograms (latestOf t -ℤ t .zero) -ℤ t .tare)
+      → Near (allowance r t) (printedFemtograms r (placesOf r (netOf w))) (exactFemtograms (latestOf t -ℤ t .zero) -ℤ t .tare)
   net-near sampled =
       rw (gross-is w t f sampled)
       (covered _ _
-      (near-triangle (stepFemtograms (p .resolution)) (cond (t .typed) 1_000_000_000 0)
-      (printedFemtograms (p .resolution) (placesOf (p .resolution) (netOf w)))
+      (near-triangle (stepFemtograms r) (cond (t .typed) 1_000_000_000 0)
+      (printedFemtograms r (placesOf r (netOf w)))
       (exactFemtograms (netOf w))
       (exactFemtograms (grossOf w) -ℤ t .tare)
-      (half-step (p .resolution) (netOf w) allowed)
+      (half-step r (netOf w) allowed)
       (rw (exact-difference (grossOf w) (pos (w .tare .0)))
       (near-shift (cond (t .typed) 1_000_000_000 0) (exactFemtograms (grossOf w)) (exactFemtograms (pos (w .tare .0))) (t .tare) (f .tare)))))
 
-  pub tare-near : Near (allowance p t) (printedFemtograms (p .resolution) (placesOf (p .resolution) (pos (w .tare .0)))) (t .tare)
+  pub tare-near : Near (allowance r t) (printedFemtograms r (placesOf r (pos (w .tare .0)))) (t .tare)
   tare-near =
       covered _ _
-      (near-triangle (stepFemtograms (p .resolution)) (cond (t .typed) 1_000_000_000 0)
-      (printedFemtograms (p .resolution) (placesOf (p .resolution) (pos (w .tare .0))))
+      (near-triangle (stepFemtograms r) (cond (t .typed) 1_000_000_000 0)
+      (printedFemtograms r (placesOf r (pos (w .tare .0))))
       (exactFemtograms (pos (w .tare .0)))
       (t .tare)
-      (half-step (p .resolution) (pos (w .tare .0)) allowed)
+      (half-step r (pos (w .tare .0)) allowed)
       (f .tare))

@@ -9,6 +9,7 @@ mod EachCall
 pub mod EndToEnd
 mod Following
 mod HostReads
+mod InForce
 pub mod OnChange
 mod Performing
 mod Pieces

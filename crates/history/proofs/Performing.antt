@@ -17,7 +17,7 @@ use Rattle.commands.proofs.Ways.{by-choice, run-cases}
 use Rattle.model.specs.declared.sending.Mode.the-variants.{Off}
 use Rattle.model.specs.Groups.{withSending, notWaiting}
 use Rattle.waiting.specs.Changes.{withThreshold}
-use Rattle.waiting.specs.Waits.{settled, settledReaction, begun}
+use Rattle.waiting.specs.Waits.{settled, begun, begunBy, settledReactionBy}
 use Rattle.device.specs.Calls.{answerBytes}
 use Rattle.model.specs.States.{isPending}
 use Rattle.weighing.specs.Weighings.{stability}
@@ -99,7 +99,7 @@ module _ (p : Profile) (s : State) (c : ℕ) where
   -- S, Z, T or SR begins, from a state whose line and wait are those of s
   begun-kind : (t : State) (pending : Pending) → t .waiting ≡ s .waiting → t .line ≡ s .line → awaitedOf pending ≡ command (identificationIn (nameOf c))
       → isWaitName (nameOf c) ≡ true → Performed s (Run c) (begun p t pending)
-  unfolding begun settledReaction
+  unfolding begunBy settledReactionBy
   begun-kind t pending same line waits named =
       by-choice (Performed s (Run c)) (t .weighing .sampled && t .weighing .stable)
       (λ e. answered refl (settled-sent p pending (t .weighing) (sym (awaiting-is pending) ∙ ap isAwaiting waits)) same line)
@@ -129,7 +129,7 @@ module _ (p : Profile) (s : State) (c : ℕ) where
 
 -- SR with a parameter
 change-kind : (p : Profile) (s : State) (t : Threshold) → Performed s (verdicts.Change t) (changing p s (t .0))
-unfolding changing begun settledReaction
+unfolding changing begunBy settledReactionBy
 change-kind p s t =
     by-choice (Performed s (verdicts.Change t)) (s .weighing .sampled && s .weighing .stable)
     (λ e. answered refl (weighed-sent p (s .weighing)) refl refl)

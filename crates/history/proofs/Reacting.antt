@@ -2,12 +2,14 @@
 -- Assumes nothing.
 use Prim.Native.Nat.{ℕ, _≤_}
 use mathlib.Core.Path.{_≡_, refl, ap}
-use mathlib.Core.Bool.{Bool, true, false, _&&_}
+use mathlib.Core.Bool.{Bool, true, false, cond, _&&_}
 use mathlib.Core.List.{List}
 use lib.Dec.{leb}
-use lib.IntN.{pos}
+use lib.IntN.{ℤ, pos}
 use Rattle.answer.specs.declared.answer.Answer.the-variants as answers
-use Rattle.answer.specs.declared.answer.Status.the-variants.{A}
+use Rattle.answer.specs.declared.answer.Number.{Number}
+use Rattle.answer.specs.declared.answer.Status.the-variants.{A, S, D}
+use Rattle.answer.specs.Lines.{headOf}
 use Rattle.answer.specs.Commands.{nameOf, needsSample, placeT, placeTI, placeZ, placeZI, placeI4, placeI5, placeI2}
 use Rattle.model.specs.declared.profile.Profile.{Profile}
 use Rattle.model.specs.declared.react.Reaction.{Reaction}
@@ -17,14 +19,14 @@ use Rattle.model.specs.declared.state.State.{State}
 use Rattle.weight.specs.declared.loads.Load.{Load}
 use Rattle.model.specs.declared.weighing.Weighing.{Weighing}
 use Rattle.device.specs.Calls.{answerBytes}
-use Rattle.model.specs.Profiles.{profileAllowed}
+use Rattle.model.specs.Profiles.{profileAllowed, resolutionIn}
 use Rattle.commands.specs.Reactions.{weighing, run, changing, identificationOf, resetState, performed, sendingAs, situationOf}
 use Rattle.commands.proofs.Ways.{run-cases, change-cases, sample-cases}
 use Rattle.model.specs.declared.sending.Mode.the-variants.{Off}
 use Rattle.model.specs.Groups.{withWaiting, withSending, reaction, chosenReaction}
 use Rattle.waiting.specs.Changes.{withThreshold}
-use Rattle.waiting.specs.Waits.{settled, settledReaction, begun, placeOfPending, sampledState, sampleReaction}
-use Rattle.weighing.specs.Weighings.{stability, grossOf, numberOf, weighed, withSample}
+use Rattle.waiting.specs.Waits.{settled, settledReaction, begun, placeOfPending, sampledState, sampleReaction, begunBy, settledReactionBy}
+use Rattle.weighing.specs.Weighings.{stability, grossOf, numberIn, weighed, withSample}
 use Rattle.line.specs.declared.judge.Verdict.{Verdict}
 use Rattle.line.specs.declared.judge.Verdict.the-variants.{Erroneous, Reset, Busy, Wrong, NoSample, Run, Preset, Show}
 use Rattle.line.specs.declared.judge.Verdict.the-variants as verdicts
@@ -32,20 +34,30 @@ use Rattle.line.specs.declared.receive.Line.{Line}
 use Rattle.line.specs.Unbounded.{Marked, endsUnbounded, finishedLine}
 use Rattle.line.proofs.Proper.{Ruled}
 use Rattle.text.specs.Field.{fieldOf}
+use Rattle.weight.specs.declared.rounding.Resolution.{Resolution}
+use Rattle.weight.specs.Printing.{printable}
 use Rattle.weight.proofs.Allowed.{both-right}
 use Rattle.weight.proofs.Nearness.{near-refl}
 use Rattle.history.specs.Tally.{Tally, Input, byteIs, sampleIs, taken, ends, endedText, isResetLine, afterReset, withTareOf}
-use Rattle.history.proofs.AnswerKinds.{Silent, nothing-silent, error-silent, list-silent, versions-silent, shown-silent, weight-shown-silent, unready-silent, wrong-silent, text-silent, zeroed-zeroes, zeroed-now-zeroes, tared-tares, tared-now-tares}
+use Rattle.history.proofs.AnswerKinds.{Silent, Tares, nothing-silent, error-silent, list-silent, versions-silent, shown-silent, weight-shown-silent, unready-silent, wrong-silent, text-silent, zeroed-zeroes, zeroed-now-zeroes, tared-tares, tared-now-tares}
 use Rattle.history.proofs.Answering.{Answered, answered-silent, answered-quietly, answered-zeroed, answered-cleared, answered-weighed, answered-tared, answered-told, answered-typed, zero-exact, zero-rounded}
 use Rattle.history.proofs.Following.{Follows}
 use Rattle.history.proofs.Verdicts.{Says}
-use Rattle.history.proofs.WeightLines.{tared-shows, tared-now-shows}
+use Rattle.history.proofs.WeightLines.{Shows, tared-shows, tared-now-shows}
 
 -- the tally accepts a reaction, and follows its weighing
 abbrev pub Reacted : Profile → Tally → Input → Reaction → Type 0
 Reacted p t i r = Answered p t i (r .state .weighing) (answerBytes p (r .answer))
 
 -- ---- S, Z, T and SR at a stable sample, and the commands that wait for one
+
+-- T of a stable sample
+stable-tares : (p : Profile) (stable : Bool) → stable ≡ true → (n : Number) → Tares (answerBytes p (answers.Weight (headOf placeT (cond stable S D)) n))
+stable-tares p stable e n = rw e (tared-tares p n)
+
+stable-shows : (p : Profile) (stable : Bool) → stable ≡ true → (r : Resolution) (w : ℤ) → printable r w ≡ true
+    → Shows r w (answerBytes p (answers.Weight (headOf placeT (cond stable S D)) (numberIn r w)))
+stable-shows p stable e r w fits = rw e (tared-shows p r w fits)
 
 module _
     (p : Profile)
@@ -67,8 +79,8 @@ module _
     settled-answered w Zero f range sampled stable = answered-zeroed p t i w not-reset f placeZ A (zeroed-zeroes p) sampled
     settled-answered w Tare f range sampled stable =
         answered-tared p t i w not-reset f allowed placeT
-        (rw stable (tared-tares p (numberOf p (grossOf w))))
-        (rw stable (tared-shows p (grossOf w)))
+        (stable-tares p (w .stable) stable (numberIn (resolutionIn p w) (grossOf w)))
+        (stable-shows p (w .stable) stable (resolutionIn p w) (grossOf w))
         sampled
     settled-answered w Change f range sampled stable = answered-weighed p t i w not-reset f allowed range sampled
 
@@ -85,14 +97,14 @@ module _
             (chosenReaction (sampled && stable)
             (settledReaction p s pending)
             (reaction (withWaiting s (record { pending = pending; unstable = 0 })) answers.Nothing))
-        unfolding settledReaction
+        unfolding settledReactionBy
         begun-by true true pending h k = settled-answered (s .weighing) pending f range h k
         begun-by true false pending h k = answered-quietly p t i (s .weighing) not-reset f _ (nothing-silent p)
         begun-by false stable pending h k = answered-quietly p t i (s .weighing) not-reset f _ (nothing-silent p)
 
         -- judged at once, or waiting
         begun-reacted : (pending : Pending) → Reacted p t i (begun p s pending)
-        unfolding begun
+        unfolding begunBy
         begun-reacted pending = begun-by (s .weighing .sampled) (s .weighing .stable) pending refl refl
 
     -- SR
@@ -127,8 +139,8 @@ module _
             (λ is. begun-reacted s f range Tare)
             (λ needs.
             answered-tared p t i (s .weighing) not-reset f allowed placeTI
-            (tared-now-tares p (s .weighing .stable) (numberOf p (grossOf (s .weighing))))
-            (λ fits. tared-now-shows p (grossOf (s .weighing)) fits (s .weighing .stable))
+            (tared-now-tares p (s .weighing .stable) (numberIn (resolutionIn p (s .weighing)) (grossOf (s .weighing))))
+            (λ fits. tared-now-shows p (resolutionIn p (s .weighing)) (grossOf (s .weighing)) fits (s .weighing .stable))
             (sample needs))
             (answered-cleared p t i (s .weighing) not-reset f)
             (λ is. answered-told p t i (s .weighing) not-reset f allowed end (rw (text, is)) range)
@@ -179,7 +191,7 @@ module _
     performed-reacted l (Preset n) says =
         let typed = says .typed in
         answered-typed p t (byteIs m) (s .weighing) (no-reset (says .other)) byte-followed allowed (n .0) end (says .more) (typed .decimal) (typed .near)
-        (typed .rounded) (ap (fieldOf (p .resolution .decimals)) (typed .printed)) (typed .range)
+        (typed .rounded) (ap (fieldOf (resolutionIn p (s .weighing) .decimals)) (typed .printed)) (typed .range)
     performed-reacted l (verdicts.Change n) says = change-reacted p allowed t (byteIs m) (no-reset says) s byte-followed range (n .0)
     performed-reacted l (Show n) says = answered-quietly p t (byteIs m) (s .weighing) (no-reset says) byte-followed _ (shown-silent p)
 
@@ -224,7 +236,7 @@ module _
         answered-weighed p t (sampleIs (z .0) stable) (withSample (s .weighing) z stable) (sample-not-reset stable) (sample-followed stable) allowed range refl
 
     pub sample-reacted : (stable : Bool) → Reacted p t (sampleIs (z .0) stable) (sampleReaction p s z stable)
-    unfolding settledReaction
+    unfolding settledReactionBy
     sample-reacted stable =
         sample-cases (Reacted p t (sampleIs (z .0) stable)) p s z stable
         (λ waits e.

@@ -17,7 +17,7 @@ use Rattle.history.specs.Claim.{takenEvents}
 use Rattle.history.specs.EndToEnd.{piecesAfter, piecesOf, piecesHold, hostAccepts}
 use Rattle.history.specs.OnChange.{sendsAfterLine, sendsAfter, sendsHold, senderHolds}
 use Rattle.history.specs.Rejected.{weightRows, stateRows, waitRows, sentRows, sendingRows, bufferRows, rows, allTell}
-use Rattle.history.specs.Tally.{afterReset, granted, weightHolds, loadHolds, typedHolds, tallied, holds, afterEvent, eventHolds, accepts}
+use Rattle.history.specs.Tally.{inForce, afterReset, granted, weightHolds, loadHolds, typedHolds, tallied, holds, afterEvent, eventHolds, accepts}
 use Rattle.history.specs.TypedTares.{showsTyped, eventShows, shownAsTyped}
 use Rattle.history.specs.Waits.{waitsHold}
 
@@ -32,6 +32,7 @@ unfolding
     rows
     takenEvents
     allTell
+    inForce
     afterReset
     granted
     weightHolds

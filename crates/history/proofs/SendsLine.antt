@@ -30,18 +30,21 @@ use Rattle.model.specs.declared.state.Pending.the-variants.{Nothing, Weigh, Zer
 use Rattle.model.specs.declared.state.State.{State}
 use Rattle.model.specs.declared.weighing.Weighing.{Weighing}
 use Rattle.model.specs.Groups.{reaction, withMode, withWeighing}
+use Rattle.model.specs.Profiles.{resolutionIn}
 use Rattle.model.specs.States.{isChange, isPending}
 use Rattle.text.specs.Ascii.{ascii, sameText}
 use Rattle.text.specs.Searching.{beforeSpace, hasSpace}
 use Rattle.waiting.specs.Changes.{chosenSending, started, withThreshold}
-use Rattle.waiting.specs.Waits.{begun, measuredReaction, settledReaction}
-use Rattle.weighing.specs.Weighings.{isOutside, netOf, numberOf, stability, tareAnswer, tared, weighed, withTare, zeroed}
+use Rattle.waiting.specs.Waits.{begun, measuredReaction, settledReaction, begunBy, settledReactionBy}
+use Rattle.weighing.specs.Weighings.{isOutside, netOf, numberIn, stability, tareAnswer, tared, weighed, withTare, zeroed}
 use Rattle.weight.proofs.Allowed.{both-left, both-right}
 use Rattle.weight.specs.declared.changes.Threshold.{Threshold}
+use Rattle.weight.specs.declared.rounding.Resolution.{Resolution}
+use Rattle.weight.specs.declared.units.WeightUnit.{WeightUnit}
 use Rattle.history.specs.OnChange.{Sends, off, always, asked, running, netIn, nameIn, isCarriedOut, thresholdIn, startedBy, sendsAfterLine}
-use Rattle.history.specs.Tally.{Tally, isResetLine}
+use Rattle.history.specs.Tally.{Tally, inForce, isResetLine}
 use Rattle.history.specs.Waits.{isEmpty}
-use Rattle.history.proofs.Following.{Follows}
+use Rattle.history.proofs.Following.{Follows, same-in-force}
 use Rattle.history.proofs.SentAnswers.{silent-empty}
 use Rattle.history.proofs.SentHeads.{net-in, heads, error-uncarried, list-uncarried, versions-uncarried, shown-uncarried, weight-shown-uncarried, cleared-uncarried, told-uncarried, unready-uncarried, wrong-uncarried, text-uncarried, zeroed-uncarried, tared-uncarried}
 use Rattle.history.proofs.Verdicts.{verdict-says}
@@ -122,7 +125,7 @@ module _ (p : Profile) (t : Tally) (f : List Marked) (l : List ℕ) (x : Sends) 
       unfolding sendsAfterLine
       line-repeats name = rw (other, name, carried)
 
-      line-changes : (threshold : ℕ) → nameIn f ≡ ascii "SR" → thresholdIn p (map byteIn f) ≡ threshold
+      line-changes : (threshold : ℕ) → nameIn f ≡ ascii "SR" → thresholdIn (inForce p t .unit) (map byteIn f) ≡ threshold
           → sendsAfterLine p t f l x ≡ cond (isEmpty l) (asked threshold) (startedBy t threshold l)
       unfolding sendsAfterLine
       line-changes threshold name typed = rw (other, name, carried, typed)
@@ -150,7 +153,7 @@ module _ (p : Profile) (s : State) (f : List Marked) (other : isResetLine f ≡ 
         → settledReaction p s q .state .sending ≡ s .sending
         → nameIn f ≡ n → sameText n (ascii "S") ≡ false → sameText n (ascii "SI") ≡ false → sameText n (ascii "SIR") ≡ false → sameText n (ascii "SR") ≡ false
         → SentOf (begun p s q)
-    unfolding begun settledReaction
+    unfolding begunBy settledReactionBy
     begun-kept q n by unlike same name a b c d =
         let before : x ≡ sendsBy (s .sending .mode) (s .sending) = old .sends ∙ free-sends (s .waiting .pending) (s .sending) free in
         by-choice SentOf (s .weighing .sampled && s .weighing .stable)
@@ -164,7 +167,7 @@ module _ (p : Profile) (s : State) (f : List Marked) (other : isResetLine f ≡ 
 
     -- S
     begun-ended : nameIn f ≡ ascii "S" → SentOf (begun p (sendingAs s Off) Weigh)
-    unfolding begun settledReaction
+    unfolding begunBy settledReactionBy
     begun-ended name =
         by-choice SentOf (s .weighing .sampled && s .weighing .stable)
         (λ e t g.
@@ -176,24 +179,27 @@ module _ (p : Profile) (s : State) (f : List Marked) (other : isResetLine f ≡ 
         (λ e t g. record { sends = line-ends p t f (answerBytes p answers.Nothing) x other (nothing-carried p) name; idle = λ h. refl })
 
     -- SR with this threshold
-    change-sent : (threshold : ℕ) → nameIn f ≡ ascii "SR" → thresholdIn p (map byteIn f) ≡ threshold → SentOf (changing p s threshold)
-    unfolding changing begun settledReaction
+    change-sent : (threshold : ℕ) → nameIn f ≡ ascii "SR" → thresholdIn (resolutionIn p (s .weighing) .unit) (map byteIn f) ≡ threshold
+        → SentOf (changing p s threshold)
+    unfolding changing begunBy settledReactionBy
     change-sent threshold name typed =
         let c : Sending = withThreshold (s .sending) threshold in
+        let read : (t : Tally) → Follows (s .weighing) t → thresholdIn (inForce p t .unit) (map byteIn f) ≡ threshold =
+        λ t g. ap (λ (r : Resolution). thresholdIn (r .unit) (map byteIn f)) (sym (same-in-force p (s .weighing) t g)) ∙ typed in
         by-choice SentOf (s .weighing .sampled && s .weighing .stable)
         (λ e t g.
         let l = answerBytes p (weighed p (s .weighing)) in
         let sampled = both-left (s .weighing .sampled) (s .weighing .stable) e in
         let stable = both-right (s .weighing .sampled) (s .weighing .stable) e in
         record {
-          sends = line-changes p t f l x other (heads p (s .weighing) .carried) threshold name typed
+          sends = line-changes p t f l x other (heads p (s .weighing) .carried) threshold name (read t g)
               ∙ rw (heads p (s .weighing) .full) (started-sends p (s .weighing) c t refl stable (net-in (s .weighing) t g sampled))
               ∙ sym (free-sends (s .waiting .pending) (started p (s .weighing) c) free);
           idle = λ h. free-idle (s .waiting .pending) free h;
         })
         (λ e t g.
         record {
-          sends = line-changes p t f (answerBytes p answers.Nothing) x other (nothing-carried p) threshold name typed ∙ rw (nothing-empty p);
+          sends = line-changes p t f (answerBytes p answers.Nothing) x other (nothing-carried p) threshold name (read t g) ∙ rw (nothing-empty p);
           idle = λ h. refl;
         })
 
@@ -229,11 +235,11 @@ module _
           idle = λ i. free-idle (s .waiting .pending) free i;
         }
 
-    alone : c ≡ placeSR → thresholdIn p (map byteIn f) ≡ 0
-    alone is = ap (thresholdIn p) (text ∙ ap nameOf is)
+    alone : (u : WeightUnit) → c ≡ placeSR → thresholdIn u (map byteIn f) ≡ 0
+    alone u is = ap (thresholdIn u) (text ∙ ap nameOf is)
 
     run-sent : Ruled c → SentOf p s f other x old (run p s c)
-    unfolding settledReaction
+    unfolding settledReactionBy
     run-sent ruled =
         let keep = kept-sent p s f other x old in
         run-cases (SentOf p s f other x old) p s c ruled
@@ -248,14 +254,14 @@ module _
         (λ needs.
         keep (measuredReaction s (zeroed p (s .weighing) placeZI (stability (s .weighing)))) refl refl (zeroed-uncarried p (s .weighing)))
         (keep (showingWeight s) refl refl (weight-shown-uncarried p))
-        (λ is. change-sent p s f other x old free 0 (named placeSR is) (alone is))
+        (λ is. change-sent p s f other x old free 0 (named placeSR is) (alone (resolutionIn p (s .weighing) .unit) is))
         (λ is. begun-kept p s f other x old free Tare (ascii "T") refl refl refl (named placeT is) refl refl refl refl)
         (λ needs. keep (measuredReaction s (tared p (s .weighing) placeTI)) refl refl (tared-uncarried p (s .weighing)))
         (keep (reaction (withWeighing s (withTare (s .weighing) 0)) (answers.Plain (headOf placeTAC A))) refl refl
         (cleared-uncarried p))
         (λ is.
-        keep (reaction s (tareAnswer p (s .weighing .tare .0))) refl refl
-        (told-uncarried p (numberOf p (pos (s .weighing .tare .0)))))
+        keep (reaction s (tareAnswer (resolutionIn p (s .weighing)) (s .weighing .tare .0))) refl refl
+        (told-uncarried p (numberIn (resolutionIn p (s .weighing)) (pos (s .weighing .tare .0)))))
 
 -- SR number unit
 spaced-name : (q : List ℕ) → beforeSpace (ascii "SR " ++ q) ≡ ascii "SR"
@@ -264,7 +270,8 @@ spaced-name q = refl
 spaced : (q : List ℕ) → hasSpace (ascii "SR " ++ q) ≡ true
 spaced q = refl
 
-typed-threshold : (p : Profile) (s : State) (f : List Marked) (n : Threshold) → ChangeLine (situationOf p s) f n → thresholdIn p (map byteIn f) ≡ n .0
+typed-threshold : (p : Profile) (s : State) (f : List Marked) (n : Threshold) → ChangeLine (situationOf p s) f n
+    → thresholdIn (resolutionIn p (s .weighing) .unit) (map byteIn f) ≡ n .0
 typed-threshold p s f n line = rw (ap hasSpace (line .line .bytes) ∙ spaced (parameterIn f), line .number)
 
 -- ---- a finished line, by its verdict
@@ -293,7 +300,7 @@ module _ (p : Profile) (s : State) (f : List Marked) (x : Sends) (old : Follow s
       run-sent p s f (says .other) x old (run-line (situationOf p s) f h .free) c (says .text) (says .may .ruled)
   performed-sent l (Preset m) h =
       kept-sent p s f (verdict-says (situationOf p s) f (Preset m) h .other) x old (performed p s l (Preset m)) refl refl
-      (told-uncarried p (numberOf p (pos (m .0))))
+      (told-uncarried p (numberIn (resolutionIn p (s .weighing)) (pos (m .0))))
   performed-sent l (verdicts.Change n) h =
       let line = change-line (situationOf p s) f h in
       change-sent p s f (verdict-says (situationOf p s) f (verdicts.Change n) h) x old (line .free) (n .0)

@@ -22,14 +22,14 @@ use Rattle.model.specs.declared.state.Pending.the-variants.{Nothing, Weigh, Zer
 use Rattle.model.specs.declared.state.State.{State}
 use Rattle.model.specs.declared.weighing.Weighing.{Weighing}
 use Rattle.model.specs.Groups.{notWaiting, reaction, withSending, withWaiting}
-use Rattle.model.specs.Profiles.{profileAllowed}
+use Rattle.model.specs.Profiles.{profileAllowed, resolutionIn}
 use Rattle.model.specs.States.{isChange, isPending, stateAllowed}
-use Rattle.model.proofs.ProfileFacts.{allowed-profile}
+use Rattle.model.proofs.InForce.{allowed-in-force}
 use Rattle.model.proofs.StateFacts.{allowed-state}
 use Rattle.text.specs.Ascii.{ascii}
 use Rattle.waiting.specs.Changes.{changeReaction, goneOutside, keptInside, sent}
 use Rattle.waiting.specs.Changes as device
-use Rattle.waiting.specs.Waits.{placeOfPending, sampledState, sendingOf, settled, settledReaction, sampleReaction}
+use Rattle.waiting.specs.Waits.{placeOfPending, sampledState, sendingOf, settled, settledReaction, sampleReaction, settledReactionBy}
 use Rattle.weighing.specs.Weighings.{grossOf, isOutside, netOf, weighed}
 use Rattle.weighing.proofs.Reach.{net-within}
 use Rattle.weight.specs.Rounding.{allowedResolution, inRange}
@@ -37,10 +37,10 @@ use Rattle.weight.specs.declared.loads.Load.{Load}
 use Rattle.weight.proofs.Allowed.{neither-left, neither-right, both-hold}
 use Rattle.weight.proofs.Moves.{move-known}
 use Rattle.history.specs.OnChange.{Running, Sends, off, always, asked, running, grossIn, netIn, isOver, isUnder, afterAwaited, afterSent, afterUnasked, isDue, isSent, unaskedHolds, sendsAfter, sendsHold}
-use Rattle.history.specs.Tally.{Tally, sampleIs, begins}
+use Rattle.history.specs.Tally.{Tally, inForce, sampleIs, begins}
 use Rattle.history.specs.Waits.{Waits, isAwaiting, isEmpty}
 use Rattle.history.proofs.DueWeights.{tare-range, within-range}
-use Rattle.history.proofs.Following.{Follows, gross-is}
+use Rattle.history.proofs.Following.{Follows, gross-is, same-in-force}
 use Rattle.history.proofs.SendsLine.{sendsBy, sendsOf, Follow, free-sends, free-idle, started-sends}
 use Rattle.history.proofs.SentAnswers.{silent-empty}
 use Rattle.history.proofs.SentHeads.{net-in, heads}
@@ -126,9 +126,9 @@ module _ (p : Profile) (t : Tally) (w : Weighing) (gross : grossIn t ≡ grossOf
   first-after out = rw (heads p w .stands, heads p w .swings, out-is, out, or-false (c .owed))
 
   -- in range, due or not, as the device tests it
-  module _ (inside : isOutside p w ≡ false) (known : (allowedResolution (p .resolution) && inRange (c .last .0) && inRange (netOf w)) ≡ true) where
-    due-is : isDue p t (w .stable) (runningOf c) ≡ device.isDue p w c
-    due-is = rw (out-is, inside, net, ← (move-known (p .resolution) (c .threshold .0) (c .last .0) (netOf w) known))
+  module _ (inside : isOutside p w ≡ false) (known : (allowedResolution (resolutionIn p w) && inRange (c .last .0) && inRange (netOf w)) ≡ true) where
+    due-is : resolutionIn p w ≡ inForce p t → isDue p t (w .stable) (runningOf c) ≡ device.isDue p w c
+    due-is same = rw (out-is, inside, net, ← same, ← (move-known (resolutionIn p w) (c .threshold .0) (c .last .0) (netOf w) known))
 
     sent-by : (stable : Bool) → w .stable ≡ stable
         → afterSent p t (answerBytes p (weighed p w)) (runningOf c)
@@ -191,14 +191,14 @@ module _
 
       -- the nets are such as the device compares
       known-nets : isOutside p (after .weighing) ≡ false
-          → (allowedResolution (p .resolution) && inRange (s .sending .last .0) && inRange (netOf (after .weighing))) ≡ true
+          → (allowedResolution (resolutionIn p (after .weighing)) && inRange (s .sending .last .0) && inRange (netOf (after .weighing))) ≡ true
       known-nets inside =
           let v = after .weighing in
           let over = ltZ (pos (p .capacity)) (grossOf v) in
           let under = ltZ (grossOf v) (negℤ (pos (p .underload))) in
           let net = net-within p (grossOf v) (v .tare .0) (neither-left over under inside) (neither-right over under inside) (tare-range p s allowed) in
           rw (
-            allowed-profile p profile .resolution,
+            allowed-in-force p profile v,
             within-range p profile (s .sending .last .0) (allowed-state p s allowed .last (rw runs)),
             within-range p profile (netOf v) (both-hold (leZ (negℤ (pos (p .underload + p .capacity))) (netOf v)) (leZ (netOf v) (pos (p .capacity))) (net .0) (net .1)),
           )
@@ -229,15 +229,15 @@ module _
           (first-after p t v (gross t g) (net t g) c out))
           (λ inside due t g.
           as-running (sent v c) (weighed p v) t refl
-          (rw (due-is p t v (gross t g) (net t g) c inside (known-nets inside) ∙ due) (heads p v .sent t (gross t g)))
+          (rw (due-is p t v (gross t g) (net t g) c inside (known-nets inside) (same-in-force p v t g) ∙ due) (heads p v .sent t (gross t g)))
           (sent-by p t v (gross t g) (net t g) c inside (known-nets inside) stable refl))
           (λ inside due t g.
           as-running (keptInside c) answers.Nothing t refl
-          (rw (due-is p t v (gross t g) (net t g) c inside (known-nets inside) ∙ due) (nothing-empty p))
+          (rw (due-is p t v (gross t g) (net t g) c inside (known-nets inside) (same-in-force p v t g) ∙ due) (nothing-empty p))
           (silent-after p t v (gross t g) (net t g) c (answerBytes p answers.Nothing) refl false inside))
 
     pub sample-sent : profileAllowed p ≡ true → stateAllowed p s ≡ true → Sent (sampleReaction p s z stable)
-    unfolding settledReaction
+    unfolding settledReactionBy
     sample-sent profile allowed =
         let v : State = sampledState s z stable in
         let q : Pending = s .waiting .pending in

@@ -14,7 +14,8 @@ use Rattle.model.specs.declared.profile.Profile.{Profile}
 use Rattle.model.specs.declared.weighing.Weighing.{Weighing}
 use Rattle.device.specs.Calls.{answerBytes}
 use Rattle.model.specs.Profiles.{informationText}
-use Rattle.weighing.specs.Weighings.{grossOf, netOf, numberOf, stability, inLimits, weighed, zeroed, tared}
+use Rattle.model.specs.Profiles.{resolutionIn}
+use Rattle.weighing.specs.Weighings.{grossOf, netOf, numberIn, stability, inLimits, weighed, zeroed, tared, zeroedBy, weighedBy, taredBy}
 use Rattle.answer.specs.declared.answer.Number.{Number}
 use Rattle.answer.specs.declared.answer.Status.{Status}
 use Rattle.answer.specs.declared.answer.Status.the-variants.{A, S, Over, Under}
@@ -69,22 +70,22 @@ IsSent a = isSilent a ≡ false
 
 module _ (p : Profile) (w : Weighing) where
   pub weighed-sent : isSilent (weighed p w) ≡ false
-  unfolding weighed
+  unfolding weighedBy
   weighed-sent =
       in-limits IsSent placeS (ltZ (pos (p .capacity)) (grossOf w)) (ltZ (grossOf w) (negℤ (pos (p .underload))))
-      (Weight (headOf placeS (stability w)) (numberOf p (netOf w)))
+      (Weight (headOf placeS (stability w)) (numberIn (resolutionIn p w) (netOf w)))
       refl refl (λ o u. refl)
 
   pub zeroed-sent : (c : ℕ) (granted : Status) → isSilent (zeroed p w c granted .answer) ≡ false
-  unfolding zeroed
+  unfolding zeroedBy
   zeroed-sent c granted =
       in-limits IsSent c (ltZ (pos (p .zeroing)) (w .load .0)) (ltZ (w .load .0) (negℤ (pos (p .zeroing)))) (Plain (headOf c granted)) refl refl (λ o u. refl)
 
   pub tared-sent : (c : ℕ) → isSilent (tared p w c .answer) ≡ false
-  unfolding tared
+  unfolding taredBy
   tared-sent c =
       in-limits IsSent c (ltZ (pos (p .capacity)) (grossOf w)) (ltZ (grossOf w) (pos 0))
-      (Weight (headOf c (stability w)) (numberOf p (grossOf w)))
+      (Weight (headOf c (stability w)) (numberIn (resolutionIn p w) (grossOf w)))
       refl refl (λ o u. refl)
 
 -- ---- at a stable sample each is an answer of the command itself
@@ -100,21 +101,21 @@ weight-own p n = (refl, refl)
 
 module _ (p : Profile) (w : Weighing) where
   pub weighed-own : w .stable ≡ true → Own p (ascii "S") (weighed p w)
-  unfolding weighed answerBytes lineOf headText
+  unfolding weighedBy answerBytes lineOf headText
   weighed-own stable =
       in-limits (Own p (ascii "S")) placeS (ltZ (pos (p .capacity)) (grossOf w)) (ltZ (grossOf w) (negℤ (pos (p .underload))))
-      (Weight (headOf placeS (stability w)) (numberOf p (netOf w)))
-      refl refl (λ o u. rw stable (weight-own p (numberOf p (netOf w)) .0))
+      (Weight (headOf placeS (stability w)) (numberIn (resolutionIn p w) (netOf w)))
+      refl refl (λ o u. rw stable (weight-own p (numberIn (resolutionIn p w) (netOf w)) .0))
 
   pub zeroed-own : Own p (ascii "Z") (zeroed p w placeZ A .answer)
-  unfolding zeroed answerBytes lineOf headText
+  unfolding zeroedBy answerBytes lineOf headText
   zeroed-own =
       in-limits (Own p (ascii "Z")) placeZ (ltZ (pos (p .zeroing)) (w .load .0)) (ltZ (w .load .0) (negℤ (pos (p .zeroing)))) (Plain (headOf placeZ A))
       refl refl (λ o u. refl)
 
   pub tared-own : w .stable ≡ true → Own p (ascii "T") (tared p w placeT .answer)
-  unfolding tared answerBytes lineOf headText
+  unfolding taredBy answerBytes lineOf headText
   tared-own stable =
       in-limits (Own p (ascii "T")) placeT (ltZ (pos (p .capacity)) (grossOf w)) (ltZ (grossOf w) (pos 0))
-      (Weight (headOf placeT (stability w)) (numberOf p (grossOf w)))
-      refl refl (λ o u. rw stable (weight-own p (numberOf p (grossOf w)) .1))
+      (Weight (headOf placeT (stability w)) (numberIn (resolutionIn p w) (grossOf w)))
+      refl refl (λ o u. rw stable (weight-own p (numberIn (resolutionIn p w) (grossOf w)) .1))

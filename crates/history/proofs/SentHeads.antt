@@ -19,10 +19,10 @@ use Rattle.answer.proofs.Names.{at-name}
 use Rattle.answer.specs.Lines.{lineEnd, quoted, statusText, headText, listedLine, listedFrom, lineOf, headOf}
 use Rattle.device.specs.Calls.{answerBytes}
 use Rattle.model.specs.declared.profile.Profile.{Profile}
-use Rattle.model.specs.Profiles.{informationText}
+use Rattle.model.specs.Profiles.{informationText, resolutionIn}
 use Rattle.model.specs.declared.weighing.Weighing.{Weighing}
 use Rattle.text.specs.Ascii.{ascii}
-use Rattle.weighing.specs.Weighings.{grossOf, netOf, numberOf, inLimits, isOutside, stability, weighed, zeroed, tared}
+use Rattle.weighing.specs.Weighings.{grossOf, netOf, numberIn, inLimits, isOutside, stability, weighed, zeroed, tared, zeroedBy, weighedBy, taredBy}
 use Rattle.history.specs.OnChange.{grossIn, netIn, isCarriedOut, isSent}
 use Rattle.history.specs.Tally.{Tally, begins}
 use Rattle.history.specs.Waits.{isEmpty}
@@ -49,7 +49,7 @@ module _ (p : Profile) (w : Weighing) where
       → ltZ (pos (p .capacity)) (grossOf w) ≡ over
       → ltZ (grossOf w) (negℤ (pos (p .underload))) ≡ under
       → w .stable ≡ stable
-      → Heads p w (inLimits placeS over under (Weight (headOf placeS (cond stable S D)) (numberOf p (netOf w))))
+      → Heads p w (inLimits placeS over under (Weight (headOf placeS (cond stable S D)) (numberIn (resolutionIn p w) (netOf w))))
   unfolding answerBytes lineOf headText
   heads-by true under stable o u s =
       record { full = refl; carried = refl; stands = rw o; swings = rw o; sent = λ t e. rw (e, o) }
@@ -61,7 +61,7 @@ module _ (p : Profile) (w : Weighing) where
       record { full = refl; carried = refl; stands = rw (o, u, s); swings = rw (o, u, s); sent = λ t e. rw (e, o, u, s) }
 
   pub heads : Heads p w (weighed p w)
-  unfolding weighed
+  unfolding weighedBy
   heads = heads-by (ltZ (pos (p .capacity)) (grossOf w)) (ltZ (grossOf w) (negℤ (pos (p .underload)))) (w .stable) refl refl refl
 
 -- ---- the other answers
@@ -132,19 +132,19 @@ module _ (p : Profile) (w : Weighing) where
 
   -- ZI
   pub zeroed-uncarried : Uncarried p (zeroed p w placeZI (stability w) .answer)
-  unfolding zeroed answerBytes lineOf headText
+  unfolding zeroedBy answerBytes lineOf headText
   zeroed-uncarried =
       in-limits (Uncarried p) placeZI (ltZ (pos (p .zeroing)) (w .load .0)) (ltZ (w .load .0) (negℤ (pos (p .zeroing)))) (Plain (headOf placeZI (stability w)))
       refl refl (λ o u. zero-by (w .stable))
 
-  tare-by : (stable : Bool) → Uncarried p (Weight (headOf placeTI (cond stable S D)) (numberOf p (grossOf w)))
+  tare-by : (stable : Bool) → Uncarried p (Weight (headOf placeTI (cond stable S D)) (numberIn (resolutionIn p w) (grossOf w)))
   unfolding answerBytes lineOf headText
   tare-by true = refl
   tare-by false = refl
 
   -- TI
   pub tared-uncarried : Uncarried p (tared p w placeTI .answer)
-  unfolding tared answerBytes lineOf headText
+  unfolding taredBy answerBytes lineOf headText
   tared-uncarried =
-      in-limits (Uncarried p) placeTI (ltZ (pos (p .capacity)) (grossOf w)) (ltZ (grossOf w) (pos 0)) (Weight (headOf placeTI (stability w)) (numberOf p (grossOf w)))
+      in-limits (Uncarried p) placeTI (ltZ (pos (p .capacity)) (grossOf w)) (ltZ (grossOf w) (pos 0)) (Weight (headOf placeTI (stability w)) (numberIn (resolutionIn p w) (grossOf w)))
       refl refl (λ o u. tare-by (w .stable))

@@ -19,7 +19,7 @@ use Rattle.commands.specs.Reactions.{performed, byteReaction, situationOf}
 use Rattle.commands.proofs.StaysAllowed.{byte-allowed, sample-allowed}
 use Rattle.commands.proofs.Ways.{change-cases, sample-cases}
 use Rattle.model.specs.Groups.{withLine, chosenReaction, reaction}
-use Rattle.waiting.specs.Waits.{sampledState, settledReaction, sampleReaction}
+use Rattle.waiting.specs.Waits.{sampledState, sampleReaction, settledReactionBy}
 use Rattle.model.specs.States.{stateAllowed, startState}
 use Rattle.line.specs.declared.receive.Line.{Line}
 use Rattle.line.specs.Receiving.{clearedLine, receivedByte}
@@ -134,7 +134,7 @@ module _ (p : Profile) (profile : profileAllowed p ≡ true) (s : State) (t : Ta
 
 -- which leaves the line alone
 sample-line : (p : Profile) (s : State) (z : Load) (stable : Bool) → sampleReaction p s z stable .state .line ≡ s .line
-unfolding settledReaction
+unfolding settledReactionBy
 sample-line p s z stable =
     sample-cases (λ x. x .state .line ≡ s .line) p s z stable (λ w e. refl) (λ w e m. refl) (λ w e l. refl) (λ n e. refl) (λ n e. refl)
     (λ n e. change-cases (λ x. x .state .line ≡ s .line) p (sampledState s z stable) (λ o t. refl) (λ o t. refl) (λ i d. refl) (λ i d. refl))

@@ -9,8 +9,9 @@ use lib.IntN.{ℤ, pos, natAbs, _-ℤ_}
 use Rattle.model.specs.declared.profile.Profile.{Profile}
 use Rattle.text.specs.Ascii.{ascii, sameText}
 use Rattle.text.specs.Reading.{readField, isDecimal}
+use Rattle.weight.specs.declared.rounding.Resolution.{Resolution}
 use Rattle.weight.specs.Rounding.{placeFemtograms, printedFemtograms, exactFemtograms, placesOf, Near}
-use Rattle.history.specs.Tally.{Input, Tally, chosenTally, withTareOf, withZeroOf, taken, ends, ended, endedText, isResetLine, afterReset, latestOf, isLoaded, typedText, typedTare, exactWeight, allowance, numberFemtograms, isWhole, tenOf, compares, grantsZero, grantsTare, grantsClear, grantsTyped, tellsLimit, granted, loadHolds, typedHolds, weightHolds, tallied, holds}
+use Rattle.history.specs.Tally.{Input, Tally, inForce, chosenTally, withTareOf, withZeroOf, taken, ends, ended, endedText, isResetLine, afterReset, latestOf, isLoaded, typedText, typedTare, exactWeight, allowance, numberFemtograms, isWhole, tenOf, compares, grantsZero, grantsTare, grantsClear, grantsTyped, tellsLimit, granted, loadHolds, typedHolds, weightHolds, tallied, holds}
 use Rattle.history.proofs.AnswerKinds.{Tests, Denied, Silent, Zeroes, Tares, Clears, Tells, Weighs}
 use Rattle.history.proofs.WeightLines.{Shows}
 
@@ -38,7 +39,7 @@ module _ (p : Profile) (t : Tally) (i : Input) (l : List ℕ) where
   unfolding tallied granted afterReset
   tallied-line =
       let u = afterReset t i (taken t i) in
-      granted-line-by (grantsZero l) (grantsTare l) (grantsClear l) (grantsTyped t i l) u (latestOf u) (exactFemtograms (latestOf u -ℤ u .zero)) (typedTare p (endedText t i))
+      granted-line-by (grantsZero l) (grantsTare l) (grantsClear l) (grantsTyped t i l) u (latestOf u) (exactFemtograms (latestOf u -ℤ u .zero)) (typedTare (inForce p t) (endedText t i))
       ∙ reset-line-by (ends t i && isResetLine (ended t i)) (taken t i)
 
   -- ---- the tally after the answer
@@ -62,7 +63,7 @@ module _ (p : Profile) (t : Tally) (i : Input) (l : List ℕ) where
   after-clears k = rw (k .zero-is, k .tare-is, k .clear-is)
 
   pub after-typed : Tells l → sameText (endedText t i) (ascii "TA") ≡ false
-      → tallied p t i l ≡ withTareOf (afterReset t i (taken t i)) (typedTare p (endedText t i)) true
+      → tallied p t i l ≡ withTareOf (afterReset t i (taken t i)) (typedTare (inForce p t) (endedText t i)) true
   unfolding tallied granted
   after-typed k other = rw (k .zero-is, k .tare-is, k .clear-is, k .told-is, other)
 
@@ -76,14 +77,14 @@ module _ (p : Profile) (t : Tally) (i : Input) (l : List ℕ) where
 
 -- ---- a weight that is near enough
 
-module _ (p : Profile) (t : Tally) (l : List ℕ) (w : ℤ) (s : Shows p w l) (near : Near (allowance p t) (printedFemtograms (p .resolution) (placesOf (p .resolution) w)) (exactWeight t l)) where
+module _ (r : Resolution) (t : Tally) (l : List ℕ) (w : ℤ) (s : Shows r w l) (near : Near (allowance r t) (printedFemtograms r (placesOf r w)) (exactWeight t l)) where
   -- the comparison of the tally
-  near-enough : 2 * natAbs (numberFemtograms p (p .resolution .decimals) (placesOf (p .resolution) w) -ℤ exactWeight t l) ≤ allowance p t
+  near-enough : 2 * natAbs (numberFemtograms (r .unit) (r .decimals) (placesOf r w) -ℤ exactWeight t l) ≤ allowance r t
   unfolding Near printedFemtograms placeFemtograms
   near-enough = near
 
   -- a whole weight answer passes it
-  weight-compares : (isWhole p l && compares p t l (readField (tenOf l))) ≡ true
+  weight-compares : (isWhole (r .unit) l && compares r t l (readField (tenOf l))) ≡ true
   weight-compares = rw (s .whole, s .number) (le-leb _ _ near-enough)
 
 -- ---- what is asked of the answer
@@ -105,20 +106,27 @@ module _ (p : Profile) (t : Tally) (i : Input) (l : List ℕ) where
   unfolding holds loadHolds typedHolds weightHolds
   clears-holds k = rw (k .zero-is, k .tare-is, k .told-is, k .net-is, k .limit-is)
 
-  module _ (w : ℤ) (s : Shows p w l) (near : Near (allowance p (tallied p t i l)) (printedFemtograms (p .resolution) (placesOf (p .resolution) w)) (exactWeight (tallied p t i l) l)) where
-    pub weighs-holds : Weighs l → isLoaded (taken t i) ≡ true → holds p t i l ≡ true
-    unfolding holds loadHolds typedHolds weightHolds
-    weighs-holds k loaded = rw (k .zero-is, k .tare-is, k .told-is, k .net-is, loaded) (weight-compares p (tallied p t i l) l w s near)
+  -- a weight in the resolution in force
+  module _
+      (r : Resolution)
+      (same : r ≡ inForce p (tallied p t i l))
+      (w : ℤ)
+      (s : Shows r w l)
+      (near : Near (allowance r (tallied p t i l)) (printedFemtograms r (placesOf r w)) (exactWeight (tallied p t i l) l))
+    where
+      pub weighs-holds : Weighs l → isLoaded (taken t i) ≡ true → holds p t i l ≡ true
+      unfolding holds loadHolds typedHolds weightHolds
+      weighs-holds k loaded = rw (k .zero-is, k .tare-is, k .told-is, k .net-is, loaded, ← same) (weight-compares r (tallied p t i l) l w s near)
 
-    pub tares-holds : Tares l → isLoaded (taken t i) ≡ true → holds p t i l ≡ true
-    unfolding holds loadHolds typedHolds weightHolds
-    tares-holds k loaded = rw (k .zero-is, k .tare-is, k .told-is, k .net-is, loaded) (weight-compares p (tallied p t i l) l w s near)
+      pub tares-holds : Tares l → isLoaded (taken t i) ≡ true → holds p t i l ≡ true
+      unfolding holds loadHolds typedHolds weightHolds
+      tares-holds k loaded = rw (k .zero-is, k .tare-is, k .told-is, k .net-is, loaded, ← same) (weight-compares r (tallied p t i l) l w s near)
 
-    pub told-holds : Tells l → ends t i ≡ true → sameText (endedText t i) (ascii "TA") ≡ true → holds p t i l ≡ true
-    unfolding holds loadHolds typedHolds weightHolds
-    told-holds k end alone = rw (k .zero-is, k .tare-is, k .told-is, k .net-is, k .limit-is, end, alone) (weight-compares p (tallied p t i l) l w s near)
+      pub told-holds : Tells l → ends t i ≡ true → sameText (endedText t i) (ascii "TA") ≡ true → holds p t i l ≡ true
+      unfolding holds loadHolds typedHolds weightHolds
+      told-holds k end alone = rw (k .zero-is, k .tare-is, k .told-is, k .net-is, k .limit-is, end, alone, ← same) (weight-compares r (tallied p t i l) l w s near)
 
-    pub typed-holds : Tells l → ends t i ≡ true → sameText (endedText t i) (ascii "TA") ≡ false → isDecimal (typedText (endedText t i)) ≡ true → holds p t i l ≡ true
-    unfolding holds loadHolds typedHolds weightHolds
-    typed-holds k end other decimal =
-        rw (k .zero-is, k .tare-is, k .told-is, k .net-is, k .limit-is, end, other, decimal) (weight-compares p (tallied p t i l) l w s near)
+      pub typed-holds : Tells l → ends t i ≡ true → sameText (endedText t i) (ascii "TA") ≡ false → isDecimal (typedText (endedText t i)) ≡ true → holds p t i l ≡ true
+      unfolding holds loadHolds typedHolds weightHolds
+      typed-holds k end other decimal =
+          rw (k .zero-is, k .tare-is, k .told-is, k .net-is, k .limit-is, end, other, decimal, ← same) (weight-compares r (tallied p t i l) l w s near)

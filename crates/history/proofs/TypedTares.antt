@@ -8,6 +8,7 @@ use Rattle.commands.specs.Reactions.{situationOf}
 use Rattle.device.specs.Calls.{answerBytes}
 use Rattle.line.proofs.PresetLines.{preset-judged}
 use Rattle.line.proofs.Verdicts.{parameterIn, preset-line}
+use Rattle.model.specs.Profiles.{resolutionIn}
 use Rattle.text.specs.Ascii.{ascii}
 use Rattle.text.specs.Field.{fieldOf}
 use Rattle.text.specs.Reading.{afterSpaces, decimalsIn, valueIn}
@@ -29,19 +30,20 @@ unfolding shownAsTyped
 typed-shown = each-call shownAsTyped eventShows (λ p t. refl) (λ p t e es h k. rw h k) (λ p t e s h. h .shown)
 
 pub typed-again : TypedAgain
-typed-again p s s′ f f′ m allowed judged bytes good free =
+typed-again p s s′ f f′ m allowed force judged bytes good free =
+    let r = resolutionIn p (s .weighing) in
     let line = preset-line (situationOf p s) f judged in
     let t = beforeSpace (parameterIn f) in
-    let n = presetPlaces (p .resolution) (decimalsIn t) (valueIn t) in
-    let typed = typed-as (p .capacity) (p .resolution) t m (line .number) (line .within) in
-    let prints = tare-printable p allowed (m .0) (line .within) in
-    let back = typed-back (p .resolution .decimals) n (rw (typed .printed) at (field-fits p (pos (m .0)) prints)) in
-    let number : List ℕ = afterSpaces (fieldOf (p .resolution .decimals) (pos n)) in
-    let same : afterSpaces (tenOf (answerBytes p (tareAnswer p (m .0)))) ≡ number =
-    ap afterSpaces (told-shows p (pos (m .0)) prints .ten ∙ ap (fieldOf (p .resolution .decimals)) (typed .printed)) in
+    let n = presetPlaces r (decimalsIn t) (valueIn t) in
+    let typed = typed-as (p .capacity) r t m (line .number) (line .within) in
+    let prints = tare-printable p allowed (s .weighing) (m .0) (line .within) in
+    let back = typed-back (r .decimals) n (rw (typed .printed) at (field-fits r (pos (m .0)) prints)) in
+    let number : List ℕ = afterSpaces (fieldOf (r .decimals) (pos n)) in
+    let same : afterSpaces (tenOf (answerBytes p (tareAnswer r (m .0)))) ≡ number =
+    ap afterSpaces (told-shows p r (pos (m .0)) prints .ten ∙ ap (fieldOf (r .decimals)) (typed .printed)) in
     preset-judged (situationOf p s′) f′ number
-    (record { bytes = bytes ∙ ap (λ (x : List ℕ). ascii "TA " ++ (x ++ (ascii " " ++ unitText (p .resolution .unit)))) same; good = good })
+    (record { bytes = rw force (bytes ∙ ap (λ (x : List ℕ). ascii "TA " ++ (x ++ (ascii " " ++ unitText (r .unit)))) same); good = good })
     (back .is)
-    (preset-read-again (p .resolution) t (line .number) back)
+    (rw force (preset-read-again r t (line .number) back))
     (line .within)
     free

@@ -18,7 +18,7 @@ use Rattle.weight.specs.declared.loads.Load.{Load}
 use Rattle.device.specs.Calls.{answerBytes}
 use Rattle.model.specs.Groups.{withLine, withSending, withWaiting, reaction, notWaiting}
 use Rattle.waiting.specs.Changes.{goneOutside, keptInside, sent}
-use Rattle.waiting.specs.Waits.{sampledState, placeOfPending, settledReaction, sampleReaction}
+use Rattle.waiting.specs.Waits.{sampledState, placeOfPending, settledReaction, sampleReaction, settledReactionBy}
 use Rattle.commands.specs.Reactions.{situationOf}
 use Rattle.commands.proofs.Ways.{change-cases, sample-cases}
 use Rattle.model.specs.States.{isPending, stateAllowed}
@@ -277,7 +277,7 @@ module _ (p : Profile) (s : State) (w : Waits) (z : Load) (stable : Bool) (old :
 -- a sample, if the state after it is allowed
 pub sample-reacts : (p : Profile) (s : State) (w : Waits) (z : Load) (stable : Bool) → Follows p s w
     → stateAllowed p (sampleReaction p s z stable .state) ≡ true → Reacts p w (sampleIs (z .0) stable) (sampleReaction p s z stable)
-unfolding settledReaction
+unfolding settledReactionBy
 sample-reacts p s w z stable old =
     let t : State = sampledState s z stable in
     sample-cases (λ x. stateAllowed p (x .state) ≡ true → Reacts p w (sampleIs (z .0) stable) x) p s z stable

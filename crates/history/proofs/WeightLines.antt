@@ -12,11 +12,12 @@ use Rattle.answer.specs.declared.answer.Answer.the-variants.{Weight}
 use Rattle.answer.specs.declared.answer.Status.the-variants.{A, S, D}
 use Rattle.answer.specs.Lines.{lineEnd, headText, weightText, lineOf, headOf}
 use Rattle.model.specs.declared.profile.Profile.{Profile}
-use Rattle.weighing.specs.Weighings.{numberOf}
+use Rattle.weighing.specs.Weighings.{numberIn}
 use Rattle.device.specs.Calls.{answerBytes}
 use Rattle.text.specs.declared.reading.FieldRead.the-variants.{Number as ReadNumber}
 use Rattle.text.specs.Ascii.{ascii, sameText}
 use Rattle.text.specs.UnitTexts.{unitText}
+use Rattle.weight.specs.declared.rounding.Resolution.{Resolution}
 use Rattle.weight.specs.Places.{fitsField}
 use Rattle.text.specs.Field.{fieldOf}
 use Rattle.text.specs.Reading.{readField}
@@ -42,63 +43,63 @@ module _ (f g u e : List ℕ) (long : length f ≡ 10) where
 
 -- ---- the weight after the head
 
-module _ (p : Profile) (w : ℤ) (fits : printable (p .resolution) w ≡ true) where
-  pub places-printed : printedNumber (p .resolution) w .places .0 ≡ placesOf (p .resolution) w
+module _ (r : Resolution) (w : ℤ) (fits : printable r w ≡ true) where
+  pub places-printed : printedNumber r w .places .0 ≡ placesOf r w
   unfolding printedNumber
   places-printed = rw fits
 
-  pub field-fits : fitsField (p .resolution .decimals) (placesOf (p .resolution) w) ≡ true
+  pub field-fits : fitsField (r .decimals) (placesOf r w) ≡ true
   unfolding printable
-  field-fits = both-right (allowedResolution (p .resolution) && inRange w) _ fits
+  field-fits = both-right (allowedResolution r && inRange w) _ fits
 
   -- ten characters, space, unit
-  weight-pieces : weightText (numberOf p w) ≡ fieldOf (p .resolution .decimals) (placesOf (p .resolution) w) ++ ascii " " ++ unitText (p .resolution .unit)
+  weight-pieces : weightText (numberIn r w) ≡ fieldOf (r .decimals) (placesOf r w) ++ ascii " " ++ unitText (r .unit)
   unfolding weightText
   weight-pieces = rw (places-printed, field-fits)
 
-  ten-printed : take 10 (weightText (numberOf p w) ++ lineEnd) ≡ fieldOf (p .resolution .decimals) (placesOf (p .resolution) w)
+  ten-printed : take 10 (weightText (numberIn r w) ++ lineEnd) ≡ fieldOf (r .decimals) (placesOf r w)
   ten-printed =
       rw weight-pieces
-      (ten-first (fieldOf (p .resolution .decimals) (placesOf (p .resolution) w)) (ascii " ") (unitText (p .resolution .unit)) lineEnd
-      (field-length (p .resolution .decimals) (placesOf (p .resolution) w) field-fits))
+      (ten-first (fieldOf (r .decimals) (placesOf r w)) (ascii " ") (unitText (r .unit)) lineEnd
+      (field-length (r .decimals) (placesOf r w) field-fits))
 
-  rest-printed : drop 10 (weightText (numberOf p w) ++ lineEnd) ≡ ascii " " ++ unitText (p .resolution .unit) ++ lineEnd
+  rest-printed : drop 10 (weightText (numberIn r w) ++ lineEnd) ≡ ascii " " ++ unitText (r .unit) ++ lineEnd
   rest-printed =
       rw weight-pieces
-      (rest-after (fieldOf (p .resolution .decimals) (placesOf (p .resolution) w)) (ascii " ") (unitText (p .resolution .unit)) lineEnd
-      (field-length (p .resolution .decimals) (placesOf (p .resolution) w) field-fits))
+      (rest-after (fieldOf (r .decimals) (placesOf r w)) (ascii " ") (unitText (r .unit)) lineEnd
+      (field-length (r .decimals) (placesOf r w) field-fits))
 
   -- the number is read back
-  number-back : readField (take 10 (weightText (numberOf p w) ++ lineEnd)) ≡ ReadNumber (p .resolution .decimals) (record { 0 = placesOf (p .resolution) w })
-  number-back = rw ten-printed (read-back (p .resolution .decimals) (placesOf (p .resolution) w) field-fits)
+  number-back : readField (take 10 (weightText (numberIn r w) ++ lineEnd)) ≡ ReadNumber (r .decimals) (record { 0 = placesOf r w })
+  number-back = rw ten-printed (read-back (r .decimals) (placesOf r w) field-fits)
 
   -- and the unit and CR LF follow it
-  rest-whole : sameText (drop 10 (weightText (numberOf p w) ++ lineEnd)) (ascii " " ++ unitText (p .resolution .unit) ++ ascii "\r\n") ≡ true
-  rest-whole = rw rest-printed (same-self (ascii " " ++ unitText (p .resolution .unit) ++ lineEnd))
+  rest-whole : sameText (drop 10 (weightText (numberIn r w) ++ lineEnd)) (ascii " " ++ unitText (r .unit) ++ ascii "\r\n") ≡ true
+  rest-whole = rw rest-printed (same-self (ascii " " ++ unitText (r .unit) ++ lineEnd))
 
 -- ---- the weight lines
 
 -- a whole weight answer, whose number is that of w micrograms
-pub record Shows (p : Profile) (w : ℤ) (l : List ℕ) : Type 0 where
-  pub whole : isWhole p l ≡ true
-  pub ten : tenOf l ≡ fieldOf (p .resolution .decimals) (placesOf (p .resolution) w)
-  pub number : readField (tenOf l) ≡ ReadNumber (p .resolution .decimals) (record { 0 = placesOf (p .resolution) w })
+pub record Shows (r : Resolution) (w : ℤ) (l : List ℕ) : Type 0 where
+  pub whole : isWhole (r .unit) l ≡ true
+  pub ten : tenOf l ≡ fieldOf (r .decimals) (placesOf r w)
+  pub number : readField (tenOf l) ≡ ReadNumber (r .decimals) (record { 0 = placesOf r w })
 
-module _ (p : Profile) (w : ℤ) (fits : printable (p .resolution) w ≡ true) where
-  pub weighed-shows : (stable : Bool) → Shows p w (answerBytes p (Weight (headOf placeS (cond stable S D)) (numberOf p w)))
+module _ (p : Profile) (r : Resolution) (w : ℤ) (fits : printable r w ≡ true) where
+  pub weighed-shows : (stable : Bool) → Shows r w (answerBytes p (Weight (headOf placeS (cond stable S D)) (numberIn r w)))
   unfolding answerBytes lineOf headText
-  weighed-shows true = record { whole = rest-whole p w fits; ten = ten-printed p w fits; number = number-back p w fits }
-  weighed-shows false = record { whole = rest-whole p w fits; ten = ten-printed p w fits; number = number-back p w fits }
+  weighed-shows true = record { whole = rest-whole r w fits; ten = ten-printed r w fits; number = number-back r w fits }
+  weighed-shows false = record { whole = rest-whole r w fits; ten = ten-printed r w fits; number = number-back r w fits }
 
-  pub tared-shows : Shows p w (answerBytes p (Weight (headOf placeT S) (numberOf p w)))
+  pub tared-shows : Shows r w (answerBytes p (Weight (headOf placeT S) (numberIn r w)))
   unfolding answerBytes lineOf headText
-  tared-shows = record { whole = rest-whole p w fits; ten = ten-printed p w fits; number = number-back p w fits }
+  tared-shows = record { whole = rest-whole r w fits; ten = ten-printed r w fits; number = number-back r w fits }
 
-  pub tared-now-shows : (stable : Bool) → Shows p w (answerBytes p (Weight (headOf placeTI (cond stable S D)) (numberOf p w)))
+  pub tared-now-shows : (stable : Bool) → Shows r w (answerBytes p (Weight (headOf placeTI (cond stable S D)) (numberIn r w)))
   unfolding answerBytes lineOf headText
-  tared-now-shows true = record { whole = rest-whole p w fits; ten = ten-printed p w fits; number = number-back p w fits }
-  tared-now-shows false = record { whole = rest-whole p w fits; ten = ten-printed p w fits; number = number-back p w fits }
+  tared-now-shows true = record { whole = rest-whole r w fits; ten = ten-printed r w fits; number = number-back r w fits }
+  tared-now-shows false = record { whole = rest-whole r w fits; ten = ten-printed r w fits; number = number-back r w fits }
 
-  pub told-shows : Shows p w (answerBytes p (Weight (headOf placeTA A) (numberOf p w)))
+  pub told-shows : Shows r w (answerBytes p (Weight (headOf placeTA A) (numberIn r w)))
   unfolding answerBytes lineOf headText
-  told-shows = record { whole = rest-whole p w fits; ten = ten-printed p w fits; number = number-back p w fits }
+  told-shows = record { whole = rest-whole r w fits; ten = ten-printed r w fits; number = number-back r w fits }

@@ -12,11 +12,12 @@ use Rattle.answer.specs.declared.answer.Answer.{Answer}
 use Rattle.answer.specs.declared.answer.Answer.the-variants.{Nothing, Plain, Weight, ErrorLine, Text, Listed, CommandList, Versions}
 use Rattle.model.specs.declared.profile.Profile.{Profile}
 use Rattle.history.specs.Claim.{OverCalls}
-use Rattle.history.specs.Tally.{Event, Tally, startTally, numberFemtograms, exactWeight, allowance, tallied, afterEvent}
+use Rattle.history.specs.Tally.{Event, Tally, startTally, inForce, numberFemtograms, exactWeight, allowance, tallied, afterEvent}
 use Rattle.host.specs.declared.reader.Read.{Read}
 use Rattle.host.specs.declared.reader.Read.the-variants as reads
 use Rattle.host.specs.Reads.{readLine}
 use Rattle.text.specs.Ascii.{sameText}
+use Rattle.weight.specs.declared.rounding.Resolution.{Resolution}
 use Rattle.text.specs.UnitTexts.{unitText}
 
 -- ---- an answer is split after every CR LF, a last unfinished piece included
@@ -38,38 +39,39 @@ piecesOf l = piecesAfter [] l
 -- ---- what the reader hands back
 
 -- the value of a weight may be as far off as the sent one
-abbrev pub valueAllowance : Profile → Tally → ℕ
-valueAllowance p t = allowance p t
+abbrev pub valueAllowance : Resolution → Tally → ℕ
+valueAllowance r t = allowance r t
 
--- of a weight: the profile's unit, and a value within half a step (and half a microgram if the tare is typed) of the exact weight
-abbrev pub valueHolds : Profile → Tally → List ℕ → Answer → Bool
-valueHolds p t l Nothing = true
-valueHolds p t l (Plain h) = true
-valueHolds p t l (Weight h n) =
-    sameText (unitText (n .unit)) (unitText (p .resolution .unit))
-    && leb (2 * natAbs (numberFemtograms p (n .decimals) (n .places .0) -ℤ exactWeight t l)) (valueAllowance p t)
-valueHolds p t l (ErrorLine e) = true
-valueHolds p t l (Text c) = true
-valueHolds p t l (Listed last c) = true
-valueHolds p t l CommandList = true
-valueHolds p t l Versions = true
+-- of a weight: the unit, and a value within half a step (and half a microgram if the tare is typed) of the exact weight
+abbrev pub valueHolds : Resolution → Tally → List ℕ → Answer → Bool
+valueHolds r t l Nothing = true
+valueHolds r t l (Plain h) = true
+valueHolds r t l (Weight h n) =
+    sameText (unitText (n .unit)) (unitText (r .unit))
+    && leb (2 * natAbs (numberFemtograms (r .unit) (n .decimals) (n .places .0) -ℤ exactWeight t l)) (valueAllowance r t)
+valueHolds r t l (ErrorLine e) = true
+valueHolds r t l (Text c) = true
+valueHolds r t l (Listed last c) = true
+valueHolds r t l CommandList = true
+valueHolds r t l Versions = true
 
-abbrev pub pieceHolds : Profile → Tally → List ℕ → Read → Bool
-pieceHolds p t l (reads.Line a place) = valueHolds p t l a
-pieceHolds p t l reads.Refused = false
+abbrev pub pieceHolds : Resolution → Tally → List ℕ → Read → Bool
+pieceHolds r t l (reads.Line a place) = valueHolds r t l a
+pieceHolds r t l reads.Refused = false
 
-unfoldable pub piecesHold : Profile → Tally → List (List ℕ) → Bool
-piecesHold p t [] = true
-piecesHold p t (l ∷ ls) = pieceHolds p t l (readLine l) && piecesHold p t ls
+unfoldable pub piecesHold : Resolution → Tally → List (List ℕ) → Bool
+piecesHold r t [] = true
+piecesHold r t (l ∷ ls) = pieceHolds r t l (readLine l) && piecesHold r t ls
 
 -- ---- a list of calls
 
 unfoldable pub hostAccepts : Profile → Tally → List Event → Bool
 hostAccepts p t [] = true
 hostAccepts p t (e ∷ es) =
-    (not (eqb (e .refusal) 0) || piecesHold p (tallied p t (e .input) (e .answer)) (piecesOf (e .answer)))
+    let after = tallied p t (e .input) (e .answer) in
+    (not (eqb (e .refusal) 0) || piecesHold (inForce p after) after (piecesOf (e .answer)))
     && hostAccepts p (afterEvent p t e) es
 
 -- what power-on sent is read too
 abbrev pub EndToEnd : Type 0
-EndToEnd = OverCalls (λ p sent es. (piecesHold p startTally (piecesOf sent) && hostAccepts p startTally es) ≡ true)
+EndToEnd = OverCalls (λ p sent es. (piecesHold (inForce p startTally) startTally (piecesOf sent) && hostAccepts p startTally es) ≡ true)

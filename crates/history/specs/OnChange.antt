@@ -17,8 +17,9 @@ use Rattle.text.specs.Searching.{beforeSpace, hasSpace}
 use Rattle.text.specs.Typed.{readTyped}
 use Rattle.weight.specs.Changes.{reachesThreshold}
 use Rattle.weight.specs.Rounding.{halfUp}
+use Rattle.weight.specs.declared.units.WeightUnit.{WeightUnit}
 use Rattle.history.specs.Claim.{OverCalls}
-use Rattle.history.specs.Tally.{Event, Input, byteIs, sampleIs, Tally, startTally, latestOf, begins, tellsNet, typedText, isResetLine, afterEvent}
+use Rattle.history.specs.Tally.{Event, Input, byteIs, sampleIs, Tally, startTally, inForce, latestOf, begins, tellsNet, typedText, isResetLine, afterEvent}
 use Rattle.history.specs.Waits.{Waits, startWaits, isAwaiting, isEmpty, afterInput}
 
 -- ---- what it keeps
@@ -75,8 +76,8 @@ abbrev pub isCarriedOut : List ℕ → Bool
 isCarriedOut l = isEmpty l || tellsNet l || begins (ascii "S +") l || begins (ascii "S -") l
 
 -- the number of SR number unit, read as TA reads its own; 0 for SR alone
-abbrev pub thresholdIn : Profile → List ℕ → ℕ
-thresholdIn p l = cond (hasSpace l) (amountIn (readTyped (p .resolution .unit) (typedText l)) .0) 0
+abbrev pub thresholdIn : WeightUnit → List ℕ → ℕ
+thresholdIn u l = cond (hasSpace l) (amountIn (readTyped u (typedText l)) .0) 0
 
 -- SR answered: with S S it runs from now on, else it is off
 abbrev pub startedBy : Tally → ℕ → List ℕ → Sends
@@ -90,7 +91,7 @@ sendsAfterLine p t f l s =
     (cond (isCarriedOut l && (sameText (nameIn f) (ascii "S") || sameText (nameIn f) (ascii "SI"))) off
     (cond (isCarriedOut l && sameText (nameIn f) (ascii "SIR")) always
     (cond (isCarriedOut l && sameText (nameIn f) (ascii "SR"))
-    (cond (isEmpty l) (asked (thresholdIn p (map byteIn f))) (startedBy t (thresholdIn p (map byteIn f)) l))
+    (cond (isEmpty l) (asked (thresholdIn (inForce p t .unit) (map byteIn f))) (startedBy t (thresholdIn (inForce p t .unit) (map byteIn f)) l))
     s)))
 
 -- ---- a sample
@@ -122,7 +123,7 @@ afterUnasked p t l (running r) = running (afterSent p t l r)
 abbrev pub isDue : Profile → Tally → Bool → Running → Bool
 isDue p t stable r =
     cond (isOver p t || isUnder p t) (not (r .outside))
-    (cond (r .owed) stable (reachesThreshold (p .resolution) (r .threshold) (r .last) (natAbs (netIn t -ℤ r .last))))
+    (cond (r .owed) stable (reachesThreshold (inForce p t) (r .threshold) (r .last) (natAbs (netIn t -ℤ r .last))))
 
 -- the latest load is sent: + or - out of range, else S S of a stable sample and S D of another
 abbrev pub isSent : Profile → Tally → Bool → List ℕ → Bool

@@ -10,6 +10,8 @@ use Rattle.model.specs.declared.profile.Profile.{Profile}
 use Rattle.line.specs.Unbounded.{Marked, endsUnbounded, afterMarked, finishedLine, byteIn, anyFaulty}
 use Rattle.text.specs.Searching.{beforeSpace, afterSpace}
 use Rattle.text.specs.Ascii.{ascii, sameText}
+use Rattle.weight.specs.declared.units.WeightUnit.{WeightUnit}
+use Rattle.weight.specs.declared.rounding.Resolution.{Resolution}
 use Rattle.weight.specs.Units.{nanogramsOf}
 use Rattle.text.specs.UnitTexts.{unitText}
 use Rattle.weight.specs.Rounding.{stepFemtograms, exactFemtograms}
@@ -48,6 +50,10 @@ pub record Tally : Type 0 where
 -- it starts with an empty line, no load, zero 0, tare 0, not typed
 abbrev pub startTally : Tally
 startTally = record { line = []; latest = none; zero = pos 0; tare = pos 0; typed = false }
+
+-- the resolution in force
+unfoldable pub inForce : Profile → Tally → Resolution
+inForce p t = p .resolution
 
 abbrev pub withTareOf : Tally → ℤ → Bool → Tally
 withTareOf t tare typed = record { line = t .line; latest = t .latest; zero = t .zero; tare = tare; typed = typed }
@@ -139,19 +145,19 @@ abbrev pub typedText : List ℕ → List ℕ
 typedText l = beforeSpace (afterSpace l)
 
 -- the decimal that it is rounded to, exact in femtograms (No. 3)
-abbrev pub typedTare : Profile → List ℕ → ℤ
-typedTare p l = pos (presetFemtograms (p .resolution) (decimalsIn (typedText l)) (valueIn (typedText l)))
+abbrev pub typedTare : Resolution → List ℕ → ℤ
+typedTare r l = pos (presetFemtograms r (decimalsIn (typedText l)) (valueIn (typedText l)))
 
 -- TA A to a line other than TA
 abbrev pub grantsTyped : Tally → Input → List ℕ → Bool
 grantsTyped t i l = tellsTare l && not (sameText (endedText t i) (ascii "TA"))
 
-unfoldable pub granted : Profile → Tally → Input → List ℕ → Tally → Tally
-granted p before i l t =
+unfoldable pub granted : Resolution → Tally → Input → List ℕ → Tally → Tally
+granted r before i l t =
     chosenTally (grantsZero l) (withZeroOf t (latestOf t))
     (chosenTally (grantsTare l) (withTareOf t (exactFemtograms (latestOf t -ℤ t .zero)) false)
     (chosenTally (grantsClear l) (withTareOf t (pos 0) false)
-    (chosenTally (grantsTyped before i l) (withTareOf t (typedTare p (endedText before i)) true) t)))
+    (chosenTally (grantsTyped before i l) (withTareOf t (typedTare r (endedText before i)) true) t)))
 
 -- ---- Then a weight answer is compared
 
@@ -169,30 +175,30 @@ tenOf l = take 10 (drop (headLength l + 1) l)
 abbrev pub restOf : List ℕ → List ℕ
 restOf l = drop (headLength l + 11) l
 
--- identification, space, status, space, ten characters, space, the profile's unit, CR LF
-abbrev pub isWhole : Profile → List ℕ → Bool
-isWhole p l = sameText (restOf l) (ascii " " ++ unitText (p .resolution .unit) ++ ascii "\r\n")
+-- identification, space, status, space, ten characters, space, the unit, CR LF
+abbrev pub isWhole : WeightUnit → List ℕ → Bool
+isWhole u l = sameText (restOf l) (ascii " " ++ unitText u ++ ascii "\r\n")
 
 -- a number of last places with d decimals, in femtograms
-abbrev pub numberFemtograms : Profile → ℕ → ℤ → ℤ
-numberFemtograms p d n = n *ℤ pos (nanogramsOf (p .resolution .unit) * 10 ^ (6 - d))
+abbrev pub numberFemtograms : WeightUnit → ℕ → ℤ → ℤ
+numberFemtograms u d n = n *ℤ pos (nanogramsOf u * 10 ^ (6 - d))
 
 -- the exact weight: the latest load - zero - tare after S S and S D, the tare after the others
 abbrev pub exactWeight : Tally → List ℕ → ℤ
 exactWeight t l = cond (tellsNet l) (exactFemtograms (latestOf t -ℤ t .zero) -ℤ t .tare) (t .tare)
 
 -- half a step, plus half a microgram if the tare is typed; doubled
-abbrev pub allowance : Profile → Tally → ℕ
-allowance p t = stepFemtograms (p .resolution) + cond (t .typed) 1_000_000_000 0
+abbrev pub allowance : Resolution → Tally → ℕ
+allowance r t = stepFemtograms r + cond (t .typed) 1_000_000_000 0
 
 -- number and exact weight differ by at most that
-abbrev pub compares : Profile → Tally → List ℕ → FieldRead → Bool
-compares p t l (Number d n) = leb (2 * natAbs (numberFemtograms p d (n .0) -ℤ exactWeight t l)) (allowance p t)
-compares p t l NoNumber = false
+abbrev pub compares : Resolution → Tally → List ℕ → FieldRead → Bool
+compares r t l (Number d n) = leb (2 * natAbs (numberFemtograms (r .unit) d (n .0) -ℤ exactWeight t l)) (allowance r t)
+compares r t l NoNumber = false
 
 -- an answer that begins like a weight and is none is refused
-unfoldable pub weightHolds : Profile → Tally → List ℕ → Bool
-weightHolds p t l = not (isWeightAnswer l) || (isWhole p l && compares p t l (readField (tenOf l)))
+unfoldable pub weightHolds : Resolution → Tally → List ℕ → Bool
+weightHolds r t l = not (isWeightAnswer l) || (isWhole (r .unit) l && compares r t l (readField (tenOf l)))
 
 -- No answer that needs the latest load comes before one
 unfoldable pub loadHolds : Tally → List ℕ → Bool
@@ -205,12 +211,12 @@ typedHolds t i l =
 
 -- ---- one call, and a list of them
 
--- the tally after a call that was not refused
+-- the tally after a call that was not refused; the resolution in force before it rounds a typed tare
 unfoldable pub tallied : Profile → Tally → Input → List ℕ → Tally
-tallied p t i l = granted p t i l (afterReset t i (taken t i))
+tallied p t i l = granted (inForce p t) t i l (afterReset t i (taken t i))
 
 unfoldable pub holds : Profile → Tally → Input → List ℕ → Bool
-holds p t i l = loadHolds (taken t i) l && typedHolds t i l && weightHolds p (tallied p t i l) l
+holds p t i l = loadHolds (taken t i) l && typedHolds t i l && weightHolds (inForce p (tallied p t i l)) (tallied p t i l) l
 
 -- A refused call changes nothing in it
 unfoldable pub afterEvent : Profile → Tally → Event → Tally

@@ -1,5 +1,6 @@
 mod Changes
 pub mod Conjunctions
+pub mod InForce
 pub mod Nets
 pub mod ProfileFacts
 mod Sizes

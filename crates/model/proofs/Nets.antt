@@ -2,19 +2,15 @@
 -- Assumes nothing.
 use mathlib.Core.Path.{_≡_}
 use mathlib.Core.Bool.{true}
-use Prim.Native.Nat.{_+_, _≤_}
-use native.Mathlib.Omega.{arith}
-use borrow.Author.Tests.{le-leb}
-use lib.IntN.{ℤ, pos, negℤ, natAbs}
+use Prim.Native.Nat.{_+_}
+use lib.IntN.{ℤ, pos, negℤ}
 use lib.Signed.{leZ}
 use Rattle.weight.specs.Places.{fitsField}
-use Rattle.weight.specs.Printing.{printable}
-use Rattle.weight.specs.Rounding.{netLimit, placesOf}
+use Rattle.weight.specs.Rounding.{placesOf}
 use Rattle.weight.proofs.EveryNet.{every-net-fits}
 use Rattle.model.specs.declared.profile.Profile.{Profile}
 use Rattle.model.specs.Profiles.{netsAllowed, profileAllowed}
-use Rattle.model.proofs.ProfileFacts.{AllowedProfile, allowed-profile}
-use Rattle.model.proofs.Sizes.{size-between}
+use Rattle.model.proofs.ProfileFacts.{allowed-profile}
 
 -- the line as the paper has it
 abbrev pub EveryNetFits : Profile → Type 0
@@ -31,15 +27,3 @@ nets-fit p h = every-net-fits (p .resolution) (p .underload + p .capacity) (p .c
 -- and where every net does, the test of the two ends holds
 pub nets-allowed : (p : Profile) → EveryNetFits p → netsAllowed p ≡ true
 nets-allowed p all = every-net-fits (p .resolution) (p .underload + p .capacity) (p .capacity) .1 all
-
--- so such a net is printed
-pub nets-printable
-    : (p : Profile) → profileAllowed p ≡ true → (net : ℤ)
-    → leZ (negℤ (pos (p .underload + p .capacity))) net ≡ true
-    → leZ net (pos (p .capacity)) ≡ true
-    → printable (p .resolution) net ≡ true
-unfolding printable
-nets-printable p h net low high =
-    let facts : AllowedProfile p = allowed-profile p h in
-    let size : natAbs net ≤ p .underload + p .capacity = size-between (p .underload + p .capacity) (p .capacity) net (omega arith) low high in
-    rw (facts .resolution, le-leb (natAbs net) netLimit (omega arith)) (nets-fit p h net low high)

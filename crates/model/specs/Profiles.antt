@@ -11,9 +11,11 @@ use Rattle.model.specs.declared.profile.Text20.{Text20}
 use Rattle.model.specs.declared.profile.Text40.{Text40}
 use Rattle.model.specs.declared.profile.Profile.{Profile}
 use Rattle.model.specs.declared.profile.Scale.{Scale}
+use Rattle.model.specs.declared.weighing.Weighing.{Weighing}
 use Rattle.text.specs.Printable.{isPrintable}
 use Rattle.weight.specs.Rounding.{allowedResolution, placesOf}
 use Rattle.weight.specs.Places.{fitsField}
+use Rattle.weight.specs.declared.rounding.Resolution.{Resolution}
 
 abbrev pub textOf20 : Text20 → List ℕ
 textOf20 t = take (t .len) (t .bytes)
@@ -65,9 +67,13 @@ profileAllowed p =
     && netsAllowed p
     && textsAllowed p
 
+-- the resolution in force
+unfoldable pub resolutionIn : Profile → Weighing → Resolution
+resolutionIn p w = p .resolution
+
 -- what weighing asks of a profile
-abbrev pub scaleOf : Profile → Scale
-scaleOf p = record { capacity = p .capacity; underload = p .underload; zeroing = p .zeroing; resolution = p .resolution }
+abbrev pub scaleOf : Profile → Weighing → Scale
+scaleOf p w = record { capacity = p .capacity; underload = p .underload; zeroing = p .zeroing; resolution = resolutionIn p w }
 
 -- the text that goes with I2 to I5
 abbrev pub informationText : Profile → ℕ → List ℕ

@@ -19,6 +19,7 @@ pub use profile::Scale;
 pub use profile::Text20;
 pub use profile::Text40;
 pub use profile::is_profile_allowed;
+pub use profile::resolution_in;
 pub use profile::scale_of;
 pub use react::Reaction;
 pub use react::answered;

@@ -6,7 +6,8 @@ ghost use lib.Dec.{leb};
 ghost use lib.ListN.{length, take};
 ghost use Rattle.text.specs.Printable.{isPrintable};
 ghost use Rattle.weight.specs.Rounding.{allowedResolution};
-ghost use Rattle.model.specs.Profiles.{capacityAllowed, underloadAllowed, zeroRangeAllowed, timeoutAllowed, netsAllowed, textAllowed20, textsAllowed, profileAllowed, scaleOf};
+ghost use Rattle.model.specs.Profiles.{capacityAllowed, underloadAllowed, zeroRangeAllowed, timeoutAllowed, netsAllowed, textAllowed20, textsAllowed, profileAllowed, resolutionIn, scaleOf};
+use crate::weighing::Weighing;
 use text::is_printable;
 use weight::Resolution;
 use weight::fits_below_zero;
@@ -44,15 +45,21 @@ pub struct Scale {
     pub resolution: Resolution,
 }
 
-pub fn scale_of(profile: Profile) -> Scale
-    ensures { λ r. ⌜ r ≡ scaleOf profile ⌝ }
+// The resolution in force.
+pub fn resolution_in(profile: Profile, weighing: Weighing) -> Resolution
+    ensures { λ r. ⌜ r ≡ resolutionIn profile weighing ⌝ }
 {
-    let resolution = profile.resolution;
+    profile.resolution
+}
+
+pub fn scale_of(profile: Profile, weighing: Weighing) -> Scale
+    ensures { λ r. ⌜ r ≡ scaleOf profile weighing ⌝ }
+{
     Scale {
         capacity: profile.capacity,
         underload: profile.underload,
         zeroing: profile.zeroing,
-        resolution,
+        resolution: resolution_in(profile, weighing),
     }
 }
 

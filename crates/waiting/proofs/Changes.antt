@@ -12,8 +12,7 @@ use Rattle.model.specs.declared.sending.Sending.{Sending}
 use Rattle.model.specs.declared.state.State.{State}
 use Rattle.model.specs.declared.weighing.Weighing.{Weighing}
 use Rattle.model.specs.Groups.{reaction, withSending}
-use Rattle.waiting.specs.Changes.{goneOutside, isDueBy, keptInside, sent, startedBy}
-use Rattle.waiting.specs.Parts.{changeReactionBy}
+use Rattle.waiting.specs.Changes.{changeReactionBy, goneOutside, isDueBy, keptInside, sent, startedBy}
 use Rattle.weighing.specs.Weighings.{outsideBy, netOf, weighedBy}
 use Rattle.weight.specs.Changes.{hasMoved}
 use Rattle.weight.specs.declared.rounding.Micrograms.{Micrograms}

@@ -1,4 +1,4 @@
 mod Changes
+pub mod InForce
 pub mod Samples
-pub mod Scales
 mod Waits

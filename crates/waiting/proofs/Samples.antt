@@ -17,13 +17,12 @@ use Rattle.model.specs.declared.state.State.{State}
 use Rattle.model.specs.declared.state.Waiting.{Waiting}
 use Rattle.weighing.specs.declared.weighing.Measured.{Measured}
 use Rattle.model.specs.Profiles.{scaleOf}
-use Rattle.waiting.specs.Changes.{changeReaction, goneOutside, isDue, keptInside, sent}
+use Rattle.waiting.specs.Changes.{changeReaction, changeReactionBy, goneOutside, isDue, keptInside, sent}
 use Rattle.weighing.specs.Weighings.{isOutside, weighed, weighedBy}
-use Rattle.waiting.proofs.Scales.{change-scale, settled-reaction-scale}
 use Rattle.weight.specs.declared.loads.Load.{Load}
 use Rattle.model.specs.Groups.{chosenReaction, notWaiting, reaction, withSending, withWaiting}
-use Rattle.waiting.specs.Parts.{changeReactionBy, latestReaction, settledBy, withGroupsOf}
-use Rattle.waiting.specs.Waits.{isAwaited, measuredReaction, sampleReaction, sampledState, sendingBy, settledReaction, unaskedAs, waited}
+use Rattle.waiting.specs.Parts.{latestReaction, withGroupsOf}
+use Rattle.waiting.specs.Waits.{isAwaited, measuredReaction, sampleReaction, sampledState, sendingBy, settledBy, settledReaction, settledReactionBy, unaskedAs, waited}
 use Rattle.model.specs.Sendings.{isOff}
 use Rattle.model.specs.States.{isPending}
 
@@ -42,18 +41,17 @@ chosen-first b x y e = rw e
 
 module _ (p : Profile) (s : State) {r : Reaction} where
   -- it is sent unasked
-  pub unasked-each : {m : Mode} {k : Scale} {a : Answer} → m ≡ EachSample → k ≡ scaleOf p → a ≡ weighedBy k (s .weighing) → r ≡ reaction s a
+  pub unasked-each : {m : Mode} {k : Scale} {a : Answer} → m ≡ EachSample → k ≡ scaleOf p (s .weighing) → a ≡ weighedBy k (s .weighing) → r ≡ reaction s a
       → r ≡ unaskedAs m p s
-  unfolding weighed
   unasked-each m k a r = rw (r, a, k, m)
 
-  pub unasked-changed : {m : Mode} {k : Scale} → m ≡ OnChange → k ≡ scaleOf p → r ≡ changeReactionBy k s → r ≡ unaskedAs m p s
-  unasked-changed m k r = rw (r, k, m) (change-scale p s)
+  pub unasked-changed : {m : Mode} {k : Scale} → m ≡ OnChange → k ≡ scaleOf p (s .weighing) → r ≡ changeReactionBy k s → r ≡ unaskedAs m p s
+  unasked-changed m k r = rw (r, k, m)
 
   -- it ends a wait
   pub attended-stable : {k : Scale} {w : Waiting} {t u : State} {c : Sending} {m : Measured}
       → s .weighing .stable ≡ true
-      → k ≡ scaleOf p
+      → k ≡ scaleOf p (s .weighing)
       → w ≡ notWaiting
       → t ≡ withWaiting s w
       → c ≡ sendingBy k (s .waiting .pending) (s .weighing) (s .sending)
@@ -61,11 +59,11 @@ module _ (p : Profile) (s : State) {r : Reaction} where
       → m ≡ settledBy k (s .waiting .pending) (s .weighing)
       → r ≡ measuredReaction u m
       → r ≡ chosenReaction (s .weighing .stable) (settledReaction p (withWaiting s notWaiting) (s .waiting .pending)) (waited p s)
+  unfolding settledReactionBy
   attended-stable e k w t c u m r =
       let free = withWaiting s notWaiting in
       let pending = s .waiting .pending in
-      rw (r, m, u, c, t, w, k)
-      (settled-reaction-scale p free pending ∙ sym (chosen-first (s .weighing .stable) (settledReaction p free pending) (waited p s) e))
+      rw (r, m, u, c, t, w, k) (sym (chosen-first (s .weighing .stable) (settledReaction p free pending) (waited p s) e))
 
   pub latest-attended : {b : Bool} → b ≡ isPending (s .waiting .pending) → b ≡ true
       → r ≡ chosenReaction (s .weighing .stable) (settledReaction p (withWaiting s notWaiting) (s .waiting .pending)) (waited p s)
@@ -86,7 +84,7 @@ either-keeps s true x y a b = a
 either-keeps s false x y a b = b
 
 settled-keeps : (p : Profile) (s : State) (pending : Pending) → Keeps s (settledReaction p (withWaiting s notWaiting) pending)
-unfolding settledReaction
+unfolding settledReactionBy
 settled-keeps p s pending = record { line = refl; display = refl }
 
 waited-keeps : (p : Profile) (s : State) → Keeps s (waited p s)
@@ -95,7 +93,7 @@ waited-keeps p s =
     either-keeps s (leb (p .timeout) (s .waiting .unstable + 1)) _ _ (record { line = refl; display = refl }) (record { line = refl; display = refl })
 
 changed-keeps : (p : Profile) (s : State) → Keeps s (changeReaction p s)
-unfolding changeReaction
+unfolding changeReactionBy
 changed-keeps p s =
     let w = s .weighing in
     let c = s .sending in

@@ -10,8 +10,7 @@ use Rattle.answer.specs.declared.answer.Status.the-variants.{I}
 use Rattle.model.specs.declared.react.Reaction.{Reaction}
 use Rattle.weighing.specs.declared.weighing.Measured.{Measured}
 use Rattle.model.specs.Groups.{notWaiting, reaction, withSending, withWaiting}
-use Rattle.waiting.specs.Parts.{begunBy, settledBy}
-use Rattle.waiting.specs.Waits.{measuredReaction, placeOfPending, sendingBy, waited}
+use Rattle.waiting.specs.Waits.{begunBy, measuredReaction, placeOfPending, sendingBy, settledBy, settledReactionBy, waited}
 use Rattle.answer.specs.Lines.{headOf}
 use Rattle.model.specs.declared.profile.Profile.{Profile}
 use Rattle.model.specs.declared.profile.Scale.{Scale}
@@ -25,7 +24,7 @@ module _ (k : Scale) (s : State) {r : Reaction} where
   pub begun-judged : (pending : Pending) {c : Sending} {t : State} {m : Measured} → (s .weighing .sampled && s .weighing .stable) ≡ true
       → c ≡ sendingBy k pending (s .weighing) (s .sending) → t ≡ withSending s c → m ≡ settledBy k pending (s .weighing) → r ≡ measuredReaction t m
       → r ≡ begunBy k s pending
-  unfolding begunBy
+  unfolding begunBy settledReactionBy
   begun-judged pending e c t m h = rw (h, m, t, c, e)
 
   -- the command waits

@@ -12,7 +12,7 @@ use Rattle.model.specs.declared.sending.Sending.{Sending}
 use Rattle.model.specs.declared.state.State.{State}
 use Rattle.model.specs.declared.weighing.Weighing.{Weighing}
 use Rattle.model.specs.Groups.{withSending, reaction, chosenReaction}
-use Rattle.weighing.specs.Weighings.{isOutside, outsideBy, netOf, weighed}
+use Rattle.weighing.specs.Weighings.{outsideBy, netOf, weighedBy}
 use Rattle.weight.specs.Changes.{hasMoved}
 
 abbrev pub chosenSending : Bool → Sending → Sending → Sending
@@ -30,7 +30,7 @@ startedBy k w c =
     (record { last = record { 0 = netOf w }; threshold = c .threshold; mode = OnChange; owed = false; outside = false })
 
 abbrev pub started : Profile → Weighing → Sending → Sending
-started p w c = startedBy (scaleOf p) w c
+started p w c = startedBy (scaleOf p w) w c
 
 -- ---- a sample while SR runs
 
@@ -52,15 +52,18 @@ abbrev pub isDueBy : Scale → Weighing → Sending → Bool
 isDueBy k w c = cond (c .owed) (w .stable) (hasMoved (k .resolution) (c .threshold .0) (c .last .0) (netOf w))
 
 abbrev pub isDue : Profile → Weighing → Sending → Bool
-isDue p w c = isDueBy (scaleOf p) w c
+isDue p w c = isDueBy (scaleOf p w) w c
 
 -- out of range + or - is sent once, until back in range; in range S S or S D where it is due
-unfoldable pub changeReaction : Profile → State → Reaction
-changeReaction p s =
+unfoldable pub changeReactionBy : Scale → State → Reaction
+changeReactionBy k s =
     let w = s .weighing in
     let c = s .sending in
-    chosenReaction (isOutside p w)
-    (reaction (withSending s (goneOutside c)) (cond (c .outside) Nothing (weighed p w)))
-    (chosenReaction (isDue p w c)
-    (reaction (withSending s (sent w c)) (weighed p w))
+    chosenReaction (outsideBy k w)
+    (reaction (withSending s (goneOutside c)) (cond (c .outside) Nothing (weighedBy k w)))
+    (chosenReaction (isDueBy k w c)
+    (reaction (withSending s (sent w c)) (weighedBy k w))
     (reaction (withSending s (keptInside c)) Nothing))
+
+abbrev pub changeReaction : Profile → State → Reaction
+changeReaction p s = changeReactionBy (scaleOf p (s .weighing)) s

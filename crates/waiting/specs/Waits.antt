@@ -26,7 +26,7 @@ use Rattle.model.specs.declared.react.Reaction.{Reaction}
 use Rattle.weighing.specs.declared.weighing.Measured.{Measured}
 use Rattle.answer.specs.Lines.{headOf}
 use Rattle.waiting.specs.Changes.{startedBy, changeReaction}
-use Rattle.weighing.specs.Weighings.{weighed, withSample, zeroed, tared}
+use Rattle.weighing.specs.Weighings.{weighed, weighedBy, withSample, zeroedBy, taredBy}
 
 -- the weighing that a command made, and its answer
 abbrev pub measuredReaction : State → Measured → Reaction
@@ -43,12 +43,15 @@ placeOfPending Tare = placeT
 placeOfPending Change = placeS
 
 -- what a waiting command makes of a stable sample
+abbrev pub settledBy : Scale → Pending → Weighing → Measured
+settledBy k Nothing w = record { weighing = w; answer = answers.Nothing }
+settledBy k Weigh w = record { weighing = w; answer = weighedBy k w }
+settledBy k Zero w = zeroedBy k w placeZ A
+settledBy k Tare w = taredBy k w placeT
+settledBy k Change w = record { weighing = w; answer = weighedBy k w }
+
 abbrev pub settled : Profile → Pending → Weighing → Measured
-settled p Nothing w = record { weighing = w; answer = answers.Nothing }
-settled p Weigh w = record { weighing = w; answer = weighed p w }
-settled p Zero w = zeroed p w placeZ A
-settled p Tare w = tared p w placeT
-settled p Change w = record { weighing = w; answer = weighed p w }
+settled p pending w = settledBy (scaleOf p w) pending w
 
 -- SR runs from then on
 abbrev pub sendingBy : Scale → Pending → Weighing → Sending → Sending
@@ -59,19 +62,25 @@ sendingBy k Tare w c = c
 sendingBy k Change w c = startedBy k w c
 
 abbrev pub sendingOf : Profile → Pending → Weighing → Sending → Sending
-sendingOf p pending w c = sendingBy (scaleOf p) pending w c
+sendingOf p pending w c = sendingBy (scaleOf p w) pending w c
 
 -- at the latest sample of a state
-unfoldable pub settledReaction : Profile → State → Pending → Reaction
-settledReaction p s pending =
-    measuredReaction (withSending s (sendingOf p pending (s .weighing) (s .sending))) (settled p pending (s .weighing))
+unfoldable pub settledReactionBy : Scale → State → Pending → Reaction
+settledReactionBy k s pending =
+    measuredReaction (withSending s (sendingBy k pending (s .weighing) (s .sending))) (settledBy k pending (s .weighing))
+
+abbrev pub settledReaction : Profile → State → Pending → Reaction
+settledReaction p s pending = settledReactionBy (scaleOf p (s .weighing)) s pending
 
 -- judge the latest sample if it is stable, and otherwise wait
-unfoldable pub begun : Profile → State → Pending → Reaction
-begun p s pending =
+unfoldable pub begunBy : Scale → State → Pending → Reaction
+begunBy k s pending =
     chosenReaction (s .weighing .sampled && s .weighing .stable)
-    (settledReaction p s pending)
+    (settledReactionBy k s pending)
     (reaction (withWaiting s (record { pending = pending; unstable = 0 })) answers.Nothing)
+
+abbrev pub begun : Profile → State → Pending → Reaction
+begun p s pending = begunBy (scaleOf p (s .weighing)) s pending
 
 -- one more unstable sample while a command waits: the W-th ends the wait with I
 unfoldable pub waited : Profile → State → Reaction

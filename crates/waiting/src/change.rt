@@ -2,7 +2,6 @@
 ghost use mathlib.Core.Path.{_≡_};
 ghost use mathlib.Core.Bool.{cond};
 ghost use Rattle.waiting.specs.Changes as meaning;
-ghost use Rattle.waiting.specs.Parts as parts;
 ghost use Rattle.weighing.specs.Weighings as weights;
 use answer::Answer;
 use model::Mode;
@@ -130,7 +129,7 @@ fn told_once(scale: Scale, weighing: Weighing, told: bool) -> Answer
 
 // A sample that finds no command waiting while SR runs; it is the state's latest.
 pub fn changed(scale: Scale, state: State) -> Reaction
-    ensures { λ r. ⌜ r ≡ parts.changeReactionBy scale state ⌝ }
+    ensures { λ r. ⌜ r ≡ meaning.changeReactionBy scale state ⌝ }
 {
     let weighing = state.weighing;
     let sending = state.sending;

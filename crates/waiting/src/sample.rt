@@ -34,8 +34,8 @@ fn unasked(profile: Profile, state: State) -> Reaction
     let weighing = state.weighing;
     match mode {
         Mode::Off => answered(state, Answer::Nothing),
-        Mode::EachSample => answered(state, weighed_by(scale_of(profile), weighing)),
-        Mode::OnChange => changed(scale_of(profile), state),
+        Mode::EachSample => answered(state, weighed_by(scale_of(profile, weighing), weighing)),
+        Mode::OnChange => changed(scale_of(profile, weighing), state),
     }
 }
 
@@ -50,7 +50,7 @@ fn attended(profile: Profile, state: State) -> Reaction
         let waiting = state.waiting;
         let pending = waiting.pending;
         let sending = state.sending;
-        let scale = scale_of(profile);
+        let scale = scale_of(profile, weighing);
         let free = with_waiting(state, not_waiting());
         let next = with_sending(free, sending_of(scale, pending, weighing, sending));
         return measured_reaction(next, settled(scale, pending, weighing));

@@ -1,7 +1,6 @@
 // S, Z, T and SR: judged at a stable sample, and else waiting.
 ghost use mathlib.Core.Path.{_≡_};
 ghost use Rattle.model.specs.Groups as groups;
-ghost use Rattle.waiting.specs.Parts as parts;
 ghost use Rattle.waiting.specs.Waits as meaning;
 use crate::change::started;
 use crate::react::measured_reaction;
@@ -58,7 +57,7 @@ pub fn not_waiting() -> Waiting
 
 // What a waiting command makes of a stable sample.
 pub fn settled(scale: Scale, pending: Pending, weighing: Weighing) -> Measured
-    ensures { λ r. ⌜ r ≡ parts.settledBy scale pending weighing ⌝ }
+    ensures { λ r. ⌜ r ≡ meaning.settledBy scale pending weighing ⌝ }
 {
     match pending {
         Pending::Nothing => unchanged(weighing, Answer::Nothing),
@@ -84,7 +83,7 @@ pub fn sending_of(scale: Scale, pending: Pending, weighing: Weighing, sending: S
 
 // The latest sample is judged if it is stable; otherwise the command waits.
 pub fn begun(scale: Scale, state: State, pending: Pending) -> Reaction
-    ensures { λ r. ⌜ r ≡ parts.begunBy scale state pending ⌝ }
+    ensures { λ r. ⌜ r ≡ meaning.begunBy scale state pending ⌝ }
 {
     let weighing = state.weighing;
     if weighing.sampled & weighing.stable {

@@ -1,2 +1,3 @@
+pub mod InForce
 mod Limits
 pub mod Reach

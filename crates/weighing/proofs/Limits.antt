@@ -11,20 +11,21 @@ use Rattle.answer.specs.declared.answer.Answer.the-variants.{Plain, Weight}
 use Rattle.answer.specs.declared.answer.Number.{Number}
 use Rattle.answer.specs.declared.answer.Status.{Status}
 use Rattle.answer.specs.declared.answer.Status.the-variants.{A, Over, Under}
-use Rattle.model.specs.declared.profile.Profile.{Profile}
 use Rattle.model.specs.declared.profile.Scale.{Scale}
-use Rattle.model.specs.Profiles.{scaleOf}
 use Rattle.model.specs.declared.weighing.Weighing.{Weighing}
 use Rattle.weighing.specs.declared.weighing.Measured.{Measured}
 use Rattle.answer.specs.Lines.{headOf}
+use Rattle.weight.specs.declared.rounding.Resolution.{Resolution}
 use Rattle.weighing.specs.Weighings.{grossOf, netOf, stability, numberIn, weighedBy, withTare, withZero, zeroedBy, taredBy, tareAnswer}
 
 module _ (s : Scale) (w : Weighing) {gross : ℤ} (g : gross ≡ grossOf w) where
   pub weighed-over : {over : Bool} {a : Answer} → over ≡ ltZ (pos (s .capacity)) gross → over ≡ true → a ≡ Plain (headOf placeS Over) → a ≡ weighedBy s w
+  unfolding weighedBy
   weighed-over e t r = rw (r, ← g, ← e, t)
 
   pub weighed-under : {over under : Bool} {a : Answer} → over ≡ ltZ (pos (s .capacity)) gross → over ≡ false
       → under ≡ ltZ gross (negℤ (pos (s .underload))) → under ≡ true → a ≡ Plain (headOf placeS Under) → a ≡ weighedBy s w
+  unfolding weighedBy
   weighed-under e t f u r = rw (r, ← g, ← e, t, ← f, u)
 
   pub weighed-net : {over under : Bool} {net : ℤ} {status : Status} {n : Number} {a : Answer}
@@ -37,10 +38,12 @@ module _ (s : Scale) (w : Weighing) {gross : ℤ} (g : gross ≡ grossOf w) wher
       → n ≡ numberIn (s .resolution) net
       → a ≡ Weight (headOf placeS status) n
       → a ≡ weighedBy s w
+  unfolding weighedBy
   weighed-net e t f u h s n r = rw (r, n, s, h, ← g, ← e, t, ← f, u)
 
   pub tared-over : {over : Bool} {a : Answer} {m : Measured} (c : ℕ) → over ≡ ltZ (pos (s .capacity)) gross → over ≡ true
       → a ≡ Plain (headOf c Over) → m ≡ record { weighing = w; answer = a } → m ≡ taredBy s w c
+  unfolding taredBy
   tared-over c e t r m = rw (m, r, ← g, ← e, t)
 
   pub tared-under : {over under : Bool} {a : Answer} {m : Measured} (c : ℕ)
@@ -51,6 +54,7 @@ module _ (s : Scale) (w : Weighing) {gross : ℤ} (g : gross ≡ grossOf w) wher
       → a ≡ Plain (headOf c Under)
       → m ≡ record { weighing = w; answer = a }
       → m ≡ taredBy s w c
+  unfolding taredBy
   tared-under c e t f u r m = rw (m, r, ← g, ← e, t, ← f, u)
 
   pub tared-gross : {over under : Bool} {status : Status} {n : Number} {a : Answer} {v : Weighing} (c : ℕ)
@@ -65,11 +69,13 @@ module _ (s : Scale) (w : Weighing) {gross : ℤ} (g : gross ≡ grossOf w) wher
       → tare ≡ natAbs (grossOf w)
       → v ≡ withTare w tare
       → record { weighing = v; answer = a } ≡ taredBy s w c
+  unfolding taredBy
   tared-gross c e t f u s n r k v = rw (v, k, r, n, s, ← g, ← e, t, ← f, u)
 
 module _ (s : Scale) (w : Weighing) {load : ℤ} (g : load ≡ w .load .0) where
   pub zeroed-over : {over : Bool} {a : Answer} {m : Measured} (c : ℕ) (granted : Status) → over ≡ ltZ (pos (s .zeroing)) load → over ≡ true
       → a ≡ Plain (headOf c Over) → m ≡ record { weighing = w; answer = a } → m ≡ zeroedBy s w c granted
+  unfolding zeroedBy
   zeroed-over c granted e t r m = rw (m, r, ← g, ← e, t)
 
   pub zeroed-under : {over under : Bool} {a : Answer} {m : Measured} (c : ℕ) (granted : Status)
@@ -80,6 +86,7 @@ module _ (s : Scale) (w : Weighing) {load : ℤ} (g : load ≡ w .load .0) where
       → a ≡ Plain (headOf c Under)
       → m ≡ record { weighing = w; answer = a }
       → m ≡ zeroedBy s w c granted
+  unfolding zeroedBy
   zeroed-under c granted e t f u r m = rw (m, r, ← g, ← e, t, ← f, u)
 
   pub zeroed-load : {over under : Bool} {a : Answer} {v : Weighing} (c : ℕ) (granted : Status)
@@ -90,10 +97,11 @@ module _ (s : Scale) (w : Weighing) {load : ℤ} (g : load ≡ w .load .0) where
       → a ≡ Plain (headOf c granted)
       → v ≡ withZero w
       → record { weighing = v; answer = a } ≡ zeroedBy s w c granted
+  unfolding zeroedBy
   zeroed-load c granted e t f u r v = rw (v, r, ← g, ← e, t, ← f, u)
 
--- ---- by the scale of a profile
+-- ---- TA
 
-pub tare-scale : (p : Profile) (tare : ℕ) {s : Scale} {net : ℤ} {n : Number} {a : Answer} → s ≡ scaleOf p → net ≡ pos tare
-    → n ≡ numberIn (s .resolution) net → a ≡ Weight (headOf placeTA A) n → a ≡ tareAnswer p tare
-tare-scale p tare by net n a = rw (a, n, net, by)
+pub tare-told : (r : Resolution) (tare : ℕ) {net : ℤ} {n : Number} {a : Answer} → net ≡ pos tare
+    → n ≡ numberIn r net → a ≡ Weight (headOf placeTA A) n → a ≡ tareAnswer r tare
+tare-told r tare net n a = rw (a, n, net)

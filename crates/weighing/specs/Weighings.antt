@@ -34,9 +34,6 @@ netOf w = grossOf w -ℤ pos (w .tare .0)
 abbrev pub numberIn : Resolution → ℤ → Number
 numberIn r weight = record { decimals = r .decimals; places = printedNumber r weight .places; unit = r .unit }
 
-abbrev pub numberOf : Profile → ℤ → Number
-numberOf p weight = numberIn (p .resolution) weight
-
 -- S for a stable sample, D for one that is not
 abbrev pub stability : Weighing → Status
 stability w = cond (w .stable) S D
@@ -54,16 +51,16 @@ abbrev pub outsideBy : Scale → Weighing → Bool
 outsideBy s w = ltZ (pos (s .capacity)) (grossOf w) || ltZ (grossOf w) (negℤ (pos (s .underload)))
 
 abbrev pub isOutside : Profile → Weighing → Bool
-isOutside p w = outsideBy (scaleOf p) w
+isOutside p w = outsideBy (scaleOf p w) w
 
 -- S, SI, SIR: gross > C gives S +, gross < -U gives S -, else the net
-abbrev pub weighedBy : Scale → Weighing → Answer
+unfoldable pub weighedBy : Scale → Weighing → Answer
 weighedBy s w =
     inLimits placeS (ltZ (pos (s .capacity)) (grossOf w)) (ltZ (grossOf w) (negℤ (pos (s .underload))))
     (Weight (headOf placeS (stability w)) (numberIn (s .resolution) (netOf w)))
 
-unfoldable pub weighed : Profile → Weighing → Answer
-weighed p w = weighedBy (scaleOf p) w
+abbrev pub weighed : Profile → Weighing → Answer
+weighed p w = weighedBy (scaleOf p w) w
 
 -- zero becomes the load, and tare becomes 0
 abbrev pub withZero : Weighing → Weighing
@@ -76,7 +73,7 @@ abbrev pub withSample : Weighing → Load → Bool → Weighing
 withSample w load stable = record { zero = w .zero; tare = w .tare; sampled = true; load = load; stable = stable }
 
 -- Z, ZI: load > R gives +, load < -R gives -; else zero becomes the load and tare becomes 0
-abbrev pub zeroedBy : Scale → Weighing → ℕ → Status → Measured
+unfoldable pub zeroedBy : Scale → Weighing → ℕ → Status → Measured
 zeroedBy s w c granted =
     let over = ltZ (pos (s .zeroing)) (w .load .0) in
     let under = ltZ (w .load .0) (negℤ (pos (s .zeroing))) in
@@ -85,11 +82,11 @@ zeroedBy s w c granted =
       answer = inLimits c over under (Plain (headOf c granted));
     }
 
-unfoldable pub zeroed : Profile → Weighing → ℕ → Status → Measured
-zeroed p w c granted = zeroedBy (scaleOf p) w c granted
+abbrev pub zeroed : Profile → Weighing → ℕ → Status → Measured
+zeroed p w c granted = zeroedBy (scaleOf p w) w c granted
 
 -- T, TI: gross > C gives +, gross < 0 gives -; else tare becomes gross, which has no sign then, and is the weight of the answer
-abbrev pub taredBy : Scale → Weighing → ℕ → Measured
+unfoldable pub taredBy : Scale → Weighing → ℕ → Measured
 taredBy s w c =
     let over = ltZ (pos (s .capacity)) (grossOf w) in
     let under = ltZ (grossOf w) (pos 0) in
@@ -98,9 +95,9 @@ taredBy s w c =
       answer = inLimits c over under (Weight (headOf c (stability w)) (numberIn (s .resolution) (grossOf w)));
     }
 
-unfoldable pub tared : Profile → Weighing → ℕ → Measured
-tared p w c = taredBy (scaleOf p) w c
+abbrev pub tared : Profile → Weighing → ℕ → Measured
+tared p w c = taredBy (scaleOf p w) w c
 
 -- TA: the tare as a weight
-abbrev pub tareAnswer : Profile → ℕ → Answer
-tareAnswer p tare = Weight (headOf placeTA A) (numberOf p (pos tare))
+abbrev pub tareAnswer : Resolution → ℕ → Answer
+tareAnswer r tare = Weight (headOf placeTA A) (numberIn r (pos tare))

@@ -9,13 +9,12 @@ use answer::S;
 use answer::Status;
 use answer::TA;
 use answer::plain;
-use model::Profile;
 use model::Scale;
 use model::Weighing;
-use model::scale_of;
 use weight::Load;
 use weight::Micrograms;
 use weight::NO_TARE;
+use weight::Resolution;
 use weight::Tare;
 use weight::from_load;
 use weight::from_tare;
@@ -48,10 +47,9 @@ pub fn net_of(weighing: Weighing) -> Micrograms
 }
 
 // A weight as it is printed.
-fn number_of(scale: Scale, weight: Micrograms) -> Number
-    ensures { λ r. ⌜ r ≡ meaning.numberIn (scale .resolution) (weight .0) ⌝ }
+fn number_of(resolution: Resolution, weight: Micrograms) -> Number
+    ensures { λ r. ⌜ r ≡ meaning.numberIn resolution (weight .0) ⌝ }
 {
-    let resolution = scale.resolution;
     let unit = resolution.unit;
     let printed = printed_number(resolution, weight);
     let places = printed.places;
@@ -108,7 +106,12 @@ pub fn weighed_by(scale: Scale, weighing: Weighing) -> Answer
     if is_under(gross, scale.underload) {
         return plain(S, Status::Under);
     }
-    weight_answer(S, stability(weighing), number_of(scale, net_of(weighing)))
+    let resolution = scale.resolution;
+    weight_answer(
+        S,
+        stability(weighing),
+        number_of(resolution, net_of(weighing)),
+    )
 }
 
 // Zero becomes the load, and tare becomes 0.
@@ -182,7 +185,8 @@ pub fn tared_by(scale: Scale, weighing: Weighing, command: u8) -> Measured
     if is_under(gross, 0) {
         return unchanged(weighing, plain(command, Status::Under));
     }
-    let answer = weight_answer(command, stability(weighing), number_of(scale, gross));
+    let resolution = scale.resolution;
+    let answer = weight_answer(command, stability(weighing), number_of(resolution, gross));
     let load = weighing.load;
     let zero = weighing.zero;
     Measured {
@@ -192,8 +196,8 @@ pub fn tared_by(scale: Scale, weighing: Weighing, command: u8) -> Measured
 }
 
 // TA: the tare as a weight.
-pub fn tare_answer(profile: Profile, tare: Tare) -> Answer
-    ensures { λ r. ⌜ r ≡ meaning.tareAnswer profile (tare .0) ⌝ }
+pub fn tare_answer(resolution: Resolution, tare: Tare) -> Answer
+    ensures { λ r. ⌜ r ≡ meaning.tareAnswer resolution (tare .0) ⌝ }
 {
-    weight_answer(TA, Status::A, number_of(scale_of(profile), from_tare(tare)))
+    weight_answer(TA, Status::A, number_of(resolution, from_tare(tare)))
 }

@@ -66,7 +66,7 @@ enum-known-verdict-8 c = search needs
 
 show-text-requires : tie.Need-show-text-requires
 show-text-requires c κs =
-    leb-true (c .before .verdict8 .given .0 .0) 20 (rw (c .before .verdict8 .given .1) at (c .before .before .before .pre))
+    leb-true (c .before .verdict8 .given .0 .0) 20 (rw (c .before .verdict8 .given .1) at (c .before .before .before .before .pre))
 
 returns : tie.Need-returns
 returns c = rw (c .answered .ensures, c .before .before .verdict .given .1)

@@ -8,6 +8,9 @@ with-tare-requires c κs = search needs
 with-weighing-requires : tie.Need-with-weighing-requires
 with-weighing-requires c κs = search needs
 
+resolution-in-requires : tie.Need-resolution-in-requires
+resolution-in-requires c κs = search needs
+
 tare-answer-requires : tie.Need-tare-answer-requires
 tare-answer-requires c κs = search needs
 
@@ -15,7 +18,10 @@ answered-requires : tie.Need-answered-requires
 answered-requires c κs = search needs
 
 returns : tie.Need-returns
-returns c = rw (c .answered .ensures, c .before .tare-answer .ensures, c .before .before .with-weighing .ensures, c .before .before .before .with-tare .ensures)
+returns c =
+    let told = c .before in
+    let moved = told .before .before in
+    rw (c .answered .ensures, told .tare-answer .ensures, told .before .resolution-in .ensures, moved .with-weighing .ensures, moved .before .with-tare .ensures)
 
 pub preset-spec : {M : Type 1} → statement M
 preset-spec =
@@ -23,6 +29,7 @@ preset-spec =
     (tie.spec
     with-tare-requires
     with-weighing-requires
+    resolution-in-requires
     tare-answer-requires
     answered-requires
     returns)

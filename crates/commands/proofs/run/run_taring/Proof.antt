@@ -39,6 +39,9 @@ answered-requires c κs = search needs
 returns-3 : tie.Need-returns-3
 returns-3 c = search (needs, taring-cleared)
 
+resolution-in-requires : tie.Need-resolution-in-requires
+resolution-in-requires c κs = search needs
+
 tare-answer-requires : tie.Need-tare-answer-requires
 tare-answer-requires c κs = search needs
 
@@ -70,6 +73,7 @@ run-taring-spec =
     plain-requires
     answered-requires
     returns-3
+    resolution-in-requires
     tare-answer-requires
     answered-requires-2
     returns-4

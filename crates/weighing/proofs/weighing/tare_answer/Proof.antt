@@ -1,10 +1,7 @@
 use borrow.Author.Needs.{needs}
-use Rattle.weighing.proofs.Limits.{tare-scale}
+use Rattle.weighing.proofs.Limits.{tare-told}
 use Rattle.weighing.proofs.weighing.tare_answer.Statement.{statement}
 use Rattle.weighing.proofs.weighing.tare_answer.Tie as tie
-
-scale-of-requires : tie.Need-scale-of-requires
-scale-of-requires c κs = search needs
 
 from-tare-requires : tie.Need-from-tare-requires
 from-tare-requires c κs = search needs
@@ -16,7 +13,7 @@ weight-answer-requires : tie.Need-weight-answer-requires
 weight-answer-requires c κs = search needs
 
 returns : tie.Need-returns
-returns c = search (needs, tare-scale)
+returns c = search (needs, tare-told)
 
 pub tare-answer-spec : {M : Type 1} → statement M
-tare-answer-spec = tie.close (tie.spec scale-of-requires from-tare-requires number-of-requires weight-answer-requires returns)
+tare-answer-spec = tie.close (tie.spec from-tare-requires number-of-requires weight-answer-requires returns)

@@ -32,11 +32,13 @@ def weight(head, number, unit="g"):
 
 LEVEL_0 = "I0 I1 I2 I3 I4 I5 S SI SIR Z ZI @".split()
 LEVEL_1 = "D DW SR T TA TAC TI".split()
-LEVELS = {**dict.fromkeys(LEVEL_0, 0), **dict.fromkeys(LEVEL_1, 1)}
+LEVEL_2 = ["M21"]
+LEVELS = {**dict.fromkeys(LEVEL_0, 0), **dict.fromkeys(LEVEL_1, 1), **dict.fromkeys(LEVEL_2, 2)}
 
 # ---- "The profile"
 
-UNITS = "g mg ct oz ozt GN dwt".split()
+# With their codes in M21.
+CODES = {"g": 0, "mg": 3, "ct": 5, "oz": 8, "ozt": 9, "GN": 10, "dwt": 11, "kg": 1, "lb": 7}
 TEXT_LENGTHS = {"I2": 40, "I3": 40, "I4": 20, "I5": 20}
 
 
@@ -62,8 +64,8 @@ WEIGHT_HEADS = ["S S", "S D", "T S", "TI S", "TI D", "TA A"]
 def weights_by_unit():
     # Every head with every unit; the units have 0 to 6 decimals in turn.
     for head in WEIGHT_HEADS:
-        for decimals, unit in enumerate(UNITS):
-            lines(weight(head, f"{8:.{decimals}f}", unit))
+        for place, unit in enumerate(CODES):
+            lines(weight(head, f"{8:.{place % 7}f}", unit))
 
 
 GOOD_NUMBERS = [
@@ -93,12 +95,12 @@ BAD_NUMBERS = [
     "",
 ]
 BAD_UNITS = [
-    # None of the seven, none at all, and with a space.
-    "G", "kg", "lb", "", " g", "g ",
+    # None of the nine, none at all, and with a space.
+    "G", "t", "ug", "", " g", "g ",
     # In the other case.
-    "mG", "gn", "Gn",
+    "mG", "gn", "Gn", "Kg", "KG", "LB",
     # A character more or less.
-    "ctx", "o", "ozt ", "dwtt", "GNN",
+    "ctx", "o", "ozt ", "dwtt", "GNN", "k", "kgg", "lbs", "l",
 ]
 
 
@@ -161,9 +163,9 @@ def names_and_statuses():
         # Each status alone.
         for status in STATUSES:
             lines(f"{name} {status}")
-        # The name in I0's lines, at its own level and at the other.
+        # The name in I0's lines, at its own level and at the others.
         for status in "AB":
-            for listed in (0, 1):
+            for listed in (0, 1, 2):
                 lines(f'I0 {status} {listed} "{name}"')
         # The name with a weight, with a text and with a number.
         lines(weight(name + " S", "1"), f'{name} A "x"', f"{name} A {level}")
@@ -185,11 +187,32 @@ def near_sr():
     lines('I0 B 1 "SR"', 'I0 A 1 "SR"', 'I0 B 0 "SR"', 'I0 A 0 "SR"', 'I0 B 2 "SR"', 'I0 B 1 "SRU"')
 
 
+def units_told():
+    # Every number up to 30: the nine codes, and those that are none.
+    for code in range(31):
+        lines(f"M21 A 0 {code}")
+    # Another display, another status, and none.
+    for code in CODES.values():
+        lines(f"M21 A 1 {code}", f"M21 B 0 {code}", f"M21 0 {code}")
+    lines("M21 A 2 5", "M21 I 0 0", "M21 L 0 0", "M21 S 0 0", "M21 0 0")
+    # Zeros and signs before a number; as much more as a byte or four hold.
+    lines("M21 A 0 00", "M21 A 0 07", "M21 A 00 7", "M21 A 0 +7", "M21 A 0 -0", "M21 A 0 0.0")
+    lines("M21 A 0 256", "M21 A 0 261", "M21 A 0 4294967296")
+    # Something missing, more of it, spaces, other characters.
+    lines("M21 A 0", "M21 A 0 ", "M21 A 7", "M21 A ", "M21", "M21 A 0 7 0", "M21 A 0 7x")
+    lines("M21 A  0 7", "M21 A 0  7", "M21  A 0 7", "M21 A 0 7 ", " M21 A 0 7", "M21 A 07")
+    lines("M21 A 0 x", "M21 A 0 g")
+    lines('M21 A "0" 7', 'M21 A 0 "7"', "M21 A 0,7", "M21 A A 0 7")
+    # Other names.
+    lines("M2 A 0 7", "M211 A 0 7", "m21 A 0 7", "M20 A 0 7", "M22 A 0 7")
+    lines("M2 A", "M211 A", "m21 A")
+
+
 def bad_listings():
     # Status, name and level of I0's lines.
     lines('I0 C 0 "I0"')
     lines('I0 A 0 "i0"', 'I0 A 0 "I"', 'I0 A 0 "I00"', 'I0 A 0 ""')
-    lines('I0 A 2 "S"', 'I0 A  "S"')
+    lines('I0 A 2 "S"', 'I0 A  "S"', 'I0 A 3 "M21"', 'I0 A 2 "M2"', 'I0 A 2 "M211"', 'I0 A 2 "m21"')
     # Their quotes, and a space after them.
     lines("I0 A 0 S", 'I0 A 0 "S', 'I0 A 0 S"', 'I0 A 0 "S" ')
 
@@ -202,11 +225,14 @@ FORMS = [
     weight("TI S", "100", "ct"),
     weight("TI D", "0.25", "mg"),
     weight("TA A", "0", "GN"),
+    weight("S S", "0.01", "kg"),
+    weight("T S", "0.03", "lb"),
     "Z A", "TAC A", "D A", "DW A",
     "ZI S", "ZI D",
     "S +", "TI -", "TA L", "S L", "I3 I",
     "ES", "ET", "EL",
-    'I0 B 0 "SIR"', 'I0 B 1 "SR"', 'I0 A 1 "TI"',
+    'I0 B 0 "SIR"', 'I0 B 1 "SR"', 'I0 B 1 "TI"', 'I0 A 2 "M21"',
+    "M21 A", "M21 I", "M21 L", "M21 A 0 0", "M21 A 0 11",
     'I1 A "0" "2.30" "2.20"',
     'I2 A "two words"', 'I5 A ""',
 ]
@@ -267,7 +293,9 @@ def manual_003():
     lines(weight("TA A", "100.00"), "TA A 100.00 g", "TA I", "TA L")
     lines("TAC A", "TAC I")
     lines(weight("TI D", "117.57"), "TI I", "TI L", "TI +", "TI -")
-    # Others, with a command and a unit that are not carried.
+    # M21, with the units of the display.
+    lines("M21 A", "M21 I", "M21 L", "M21 B 0 0", "M21 B 1 3", "M21 A 2 5")
+    # Others, with a command that is not carried.
     lines('I2 A "AX204 R Standard 220.0000 g"', "K A", "K C 5")
     lines(weight("T S", "70.0000"), "T S . . . . . 70.0000 g", weight("S S", "12.34", "lb"))
 
@@ -303,6 +331,7 @@ CAPTURE = [
     names_and_statuses,
     short_lines,
     near_sr,
+    units_told,
     bad_listings,
     texts,
     damaged_forms,

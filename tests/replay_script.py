@@ -8,6 +8,7 @@ heads a part of the script is the first line of its function. A part with no pow
 the state of the part before it.
 """
 import sys
+from typing import NamedTuple
 
 # ---- the lines of a script
 
@@ -15,7 +16,8 @@ script = []
 
 
 def play(*lines):
-    script.extend(lines)
+    for line in lines:
+        script.extend(settings(line) if isinstance(line, Profile) else [line])
 
 
 def watch(*lines):
@@ -53,12 +55,38 @@ def whole(chars, *faulty_places, word="w"):
     return " ".join((word, *marked))
 
 
-def profile(c=220_000_000, u=1_000_000, r=4_400_000, w=3, unit="g", d=4, k=1):
-    """Profile A, but for the values that are given."""
-    return f"profile {c} {u} {r} {w} {unit} {d} {k}"
+# The units, with their codes in M21.
+CODES = {"g": 0, "mg": 3, "ct": 5, "oz": 8, "ozt": 9, "GN": 10, "dwt": 11, "kg": 1, "lb": 7}
+UNITS = list(CODES)
+
+
+class Profile(NamedTuple):
+    """A profile, and the unit that a part wants in force."""
+    numbers: str
+    places: dict
+    unit: str
+
+
+def profile(c=220_000_000, u=1_000_000, r=4_400_000, w=3, unit="g", d=None, k=None, **others):
+    """Profile A, but for the values that are given; others are decimals and step of a unit."""
+    places = {name: (4 if name == "g" else 2, 1) for name in UNITS}
+    places.update(others)
+    decimals, step = places[unit]
+    places[unit] = (decimals if d is None else d, step if k is None else k)
+    return Profile(f"profile {c} {u} {r} {w}", places, unit)
 
 
 PROFILE_A = profile()
+
+# The decimals and the step of each unit, as the script has set them so far.
+standing = dict(PROFILE_A.places)
+
+
+def settings(given):
+    """The line of the numbers, and a line for each unit that is not as it stands."""
+    changed = {unit: row for unit, row in given.places.items() if row != standing[unit]}
+    standing.update(changed)
+    return [given.numbers, *(f"unit {unit} {d} {k}" for unit, (d, k) in changed.items())]
 
 
 def small(c=1000, u=0, r=0, **others):
@@ -71,15 +99,26 @@ def text(number, value):
     return f"text {number} {value}"
 
 
+def switch_on(given):
+    """With g in force, as a power-on leaves it: every unit of a profile counts."""
+    play(given, "on")
+
+
+def set_unit(unit):
+    return f"> M21 0 {CODES[unit]}"
+
+
 def power_on(given=PROFILE_A, *texts):
+    """And the unit that is wanted."""
     play(given, *texts, "on")
+    if given.unit != "g":
+        play(set_unit(given.unit))
 
 
 # ---- "Commands carried"
 
-UNITS = "g mg ct oz ozt GN dwt".split()
-NAMES = "I0 I1 I2 I3 I4 I5 S SI SIR Z ZI @ D DW SR T TA TAC TI".split()
-WITH_PARAMETERS = ("D", "TA", "SR")
+NAMES = "I0 I1 I2 I3 I4 I5 S SI SIR Z ZI @ D DW SR T TA TAC TI M21".split()
+WITH_PARAMETERS = ("D", "TA", "SR", "M21")
 WAITING = ("S", "T", "Z", "SR")
 
 
@@ -101,33 +140,34 @@ def near_names():
 def capacity_limits():
     part("Each line of the profile at its limit and broken alone. "
          "C: 0, 1, 1,000,000,000 and one more.")
+    # mg: with 2 decimals it has no room for the largest capacity.
     for c in (0, 1, 1_000_000_000, 1_000_000_001):
-        power_on(small(c=c))
+        switch_on(small(c=c, mg=(0, 1)))
     # The most that 32 bits hold.
-    power_on(small(c=4_294_967_295, d=0))
+    switch_on(small(c=4_294_967_295, d=0, mg=(0, 1)))
 
 
 def margin_and_range_limits():
     part("U and R: C, and one more.")
     for u in (1000, 1001, 4_294_967_295):
-        power_on(small(u=u))
+        switch_on(small(u=u))
     for r in (1000, 1001, 4_294_967_295):
-        power_on(small(r=r))
+        switch_on(small(r=r))
 
 
 def patience_limits():
     part("W: 0, 1, 1000, 1001.")
     for w in (0, 1, 1000, 1001, 4_294_967_295):
-        power_on(small(w=w))
+        switch_on(small(w=w))
 
 
 def decimals_and_step_limits():
     part("Decimals: 0, 6, 7, 255. Step: 0, 1, 2, 3, 4, 5, 6, 10, 255.")
     # oz: its step is a microgram or more with 7 decimals too.
     for d in (0, 6, 7, 255):
-        power_on(small(unit="oz", d=d))
+        switch_on(small(unit="oz", d=d))
     for k in (0, 1, 2, 3, 4, 5, 6, 10, 255):
-        power_on(small(k=k))
+        switch_on(small(k=k))
 
 
 FINEST = [
@@ -138,12 +178,15 @@ FINEST = [
     ("ozt", 6, 1),
     ("GN", 4, 1), ("GN", 5, 2), ("GN", 5, 5),
     ("dwt", 6, 1),
+    ("kg", 6, 1),
+    ("lb", 6, 1),
 ]
 TOO_FINE = [
     ("g", 7, 5),
     ("mg", 4, 1), ("mg", 4, 2), ("mg", 4, 5),
     ("ct", 6, 1), ("ct", 6, 2),
     ("GN", 5, 1), ("GN", 6, 5),
+    ("kg", 7, 1), ("lb", 7, 1),
 ]
 
 
@@ -154,27 +197,32 @@ def finest_steps():
         power_on(small(unit=unit, d=d, k=k))
         play("s 1000", "> S")
     for unit, d, k in TOO_FINE:
-        power_on(small(unit=unit, d=d, k=k))
+        switch_on(small(unit=unit, d=d, k=k))
+
+
+def wide(**values):
+    """With a mg that has room for every net, unless it is the unit that counts."""
+    return small(**{"mg": (0, 1), **values})
 
 
 def widest_nets():
     part("Every net fits ten characters: the highest, and the lowest with U.")
     # C alone: the lowest net is -C, and its minus takes a place.
-    power_on(small(c=999_999_999, d=6))
-    power_on(small(c=999_999_499, d=5))
-    power_on(small(c=1_000_000_000, d=5))
-    power_on(small(c=1_000_000_000, d=6))
-    power_on(small(c=99_999_999, d=6))
-    power_on(small(c=100_000_000, d=6))
+    switch_on(wide(c=999_999_999, d=6))
+    switch_on(wide(c=999_999_499, d=5))
+    switch_on(wide(c=1_000_000_000, d=5))
+    switch_on(wide(c=1_000_000_000, d=6))
+    switch_on(wide(c=99_999_999, d=6))
+    switch_on(wide(c=100_000_000, d=6))
     # U and C together, the last that fit and one more; with 5 decimals the rounding decides.
-    power_on(small(c=50_000_000, u=49_999_999, d=6))
-    power_on(small(c=50_000_000, u=50_000_000, d=6))
-    power_on(small(c=500_000_000, u=499_999_994, d=5))
-    power_on(small(c=500_000_000, u=499_999_995, d=5))
+    switch_on(wide(c=50_000_000, u=49_999_999, d=6))
+    switch_on(wide(c=50_000_000, u=50_000_000, d=6))
+    switch_on(wide(c=500_000_000, u=499_999_994, d=5))
+    switch_on(wide(c=500_000_000, u=499_999_995, d=5))
     # mg, with and without decimals.
-    power_on(small(c=1_000_000_000, u=1_000_000_000, unit="mg", d=0))
-    power_on(small(c=1_000_000_000, unit="mg", d=2))
-    power_on(small(c=99_999_994, unit="mg", d=2))
+    switch_on(wide(c=1_000_000_000, u=1_000_000_000, mg=(0, 1)))
+    switch_on(wide(c=1_000_000_000, mg=(2, 1)))
+    switch_on(wide(c=99_999_994, mg=(2, 1)))
 
 
 def printed_ends():
@@ -383,6 +431,7 @@ def order_5_waiting():
             watch("> " + name)
     # Good and wrong parameters.
     play('> D "a"', "> D a", "> TA 1 g", "> TA x", "> SR 1 g", "> SR x", "> SR ")
+    play("> M21 0 5", "> M21 0 2", "> M21 x", "> M21 ")
     # Rows 2, 3, 1 and 2.
     play("> Q", "> S 1", faulty("Q"), END, "> ")
     # S waits still.
@@ -400,7 +449,7 @@ def order_6_wrong_parameters():
     play('> D "123456789012345678901"', '> D """', "> D A")
     # TA: a number and a unit, a single space before each.
     play("> TA ", "> TA 1", "> TA 1 ", "> TA  1 g", "> TA 1  g", "> TA 1 g ", "> TA g")
-    # TA: the unit is the profile's.
+    # TA: the unit is the one in force.
     play("> TA 1 kg", "> TA 1 mg", "> TA 1 G", "> TA 1g")
     # TA: at most one point, with digits on both sides.
     play("> TA . g", "> TA .5 g", "> TA 5. g", "> TA 1..2 g", "> TA 1.2.3 g")
@@ -602,7 +651,7 @@ def refusals_in_order():
     play(profile(c=0, u=0, r=0), "> DW")
     play(profile(r=4999), "> DW")
     play(PROFILE_A, "> DW")
-    play("room 256", LF)
+    play("room 384", LF)
 
 
 def refusal_2():
@@ -625,10 +674,11 @@ def refusal_2():
 ANSWER_SIZES = [
     ("DW", 6), ("TAC", 7),
     ("SI", 18), ("SR", 18), ("TA", 19), ("TI", 19),
-    ("I4", 16), ("@", 16), ("I0", 244), ("I1", 24), ("I2", 9),
+    ("I4", 16), ("@", 16), ("I0", 258), ("I1", 24), ("I2", 9),
     ("Q", 4), ("S 1", 4),
     ("Z", 5), ("ZI", 6),
     ("D", 5), ("SR x", 5),
+    ("M21", 11), ("M21 0 0", 7), ("M21 x", 7),
 ]
 
 
@@ -646,15 +696,15 @@ def refusal_3():
     # The sample that ends a wait.
     play("> S", "room 17", "s 1000", "room 18", "s 1000")
     # The LF of SIR, each sample of the repetition, and the LF of S.
-    play("room 4", "> SIR", "room 256", LF)
+    play("room 4", "> SIR", "room 384", LF)
     play("room 17", "s 2000", "u 3000", "room 18", "s 2000")
-    play("room 4", "> S", "room 256", LF)
+    play("room 4", "> S", "room 384", LF)
 
 
 def no_room():
     part("In a room of 0 a line is received up to its CR.")
     play("room 0", good("DW\r"), LF, LF)
-    play("room 6", LF, "room 256")
+    play("room 6", LF, "room 384")
 
 
 def refused_takes_nothing():
@@ -663,7 +713,7 @@ def refused_takes_nothing():
     power_on()
     watch('> D "TEXT"', "s 5000", "> Z", "s 7000", "> T", "> SIR", good("D"))
     # By 3: samples, and the LF.
-    watch("room 17", "s 1", "u 2", "room 0", good("W\r"), LF, "room 256")
+    watch("room 17", "s 1", "u 2", "room 0", good("W\r"), LF, "room 384")
     # By 1: every call.
     watch(BROKEN, LF, faulty("\n"), "s 1", "on")
     # By 2: the zero is above R; then the tare is above C as well.
@@ -671,9 +721,9 @@ def refused_takes_nothing():
     watch(profile(c=1999, u=1000, r=1999), LF, "u 1")
     # A power-on by 3; the line then ends, and the repetition goes on.
     play(PROFILE_A)
-    watch("room 15", "on", "room 256", LF, "u 8000")
+    watch("room 15", "on", "room 384", LF, "u 8000")
     # The last sample of a wait: by 3, by 2, then taken.
-    watch("> S", "u 1", "u 2", "room 0", "u 3", "s 4", "room 256")
+    watch("> S", "u 1", "u 2", "room 0", "u 3", "s 4", "room 384")
     watch(profile(w=2), "u 3", "> @")
     play(PROFILE_A)
     watch("u 3", "on")
@@ -690,7 +740,7 @@ def before_power_on():
     watch("room 16", "on", "> S")
     # No line of the script's.
     watch("@ on")
-    watch("room 256")
+    watch("room 384")
 
 
 # ---- "Proof each function owes": what the manuals print
@@ -786,10 +836,10 @@ def bench_waiting_and_lines():
 
 def bench_profiles():
     part("Bench cases: profiles.")
-    power_on(profile(c=99_999_999, u=0, unit="mg", d=3))
-    power_on(profile(c=100_000_000, u=0, unit="mg", d=3))
-    power_on(small(c=1_000_000, unit="GN", d=5, k=1))
-    power_on(small(c=1_000_000, unit="GN", d=5, k=2))
+    switch_on(profile(c=99_999_999, u=0, unit="mg", d=3))
+    switch_on(profile(c=100_000_000, u=0, unit="mg", d=3))
+    switch_on(small(c=1_000_000, unit="GN", d=5, k=1))
+    switch_on(small(c=1_000_000, unit="GN", d=5, k=2))
 
 
 # ---- Document 02, No. 1: send on change
@@ -853,7 +903,7 @@ def sr_goes_on():
     power_on()
     watch("s 0", "> SIR", "> SR 0 g", "u 1")
     # The LF of SR in a room of 17, and in one of 18.
-    watch("s 2", "room 17", "> SR", "room 18", LF, "room 256")
+    watch("s 2", "room 17", "> SR", "room 18", LF, "room 384")
 
 
 def sr_reset():
@@ -981,7 +1031,7 @@ def sr_rooms():
     watch("room 4", "s 220000001", "room 5", "s 220000001", "room 0", "s 220000001", "u 0")
     watch("room 17", "u 3000", "room 18", "u 3000", "room 17", "u 90000", "s 0", "room 18", "s 0")
     # The sample that ends a wait of SR.
-    watch("u 0", "> SR", "room 17", "s 5", "room 18", "s 5", "room 256")
+    watch("u 0", "> SR", "room 17", "s 5", "room 18", "s 5", "room 384")
 
 
 def sr_manual():
@@ -1030,7 +1080,7 @@ def buffer_commands():
     # A repetition, and SR.
     watch(whole("SIR\r\n"), "u 4", whole("DW\r\n"), "u 5", whole("SR 1 g\r\nS 1\r\n"), "s 6")
     watch("s 1000006", "u 2000006", whole("TA 1 g\r\nTAC\r\n"), "s 6", whole("SI\r\n"), "s 6")
-    play("room 256")
+    play("room 384")
 
 
 def buffer_marks():
@@ -1064,15 +1114,15 @@ def buffer_rooms():
         watch(f"room {room}", whole(twice))
     # A shorter answer is not reached past one that does not fit.
     listed = "I0\r\nQ\r\n"
-    watch("room 243", whole(listed), "room 244", whole("\nQ\r\n"), "room 4", whole("\n"))
-    watch("room 247", whole(listed), LF, "room 248", whole(listed))
+    watch("room 257", whole(listed), "room 258", whole("\nQ\r\n"), "room 4", whole("\n"))
+    watch("room 261", whole(listed), LF, "room 262", whole(listed))
     watch("room 15", whole("I4\r\nQ\r\n"), "room 19", whole("\nQ\r\n"))
     watch("room 20", whole("\nI4\r\n"), whole("\nQ\r\n"))
     # The LF alone, and more after it.
     watch(good("Q\r"), "room 0", whole("\n"), "room 3", whole("\nQ\r\n"))
     watch("room 4", whole("\nQ\r\n"), whole("\n"))
     # Never refusal 3, which is the byte call's.
-    watch("room 3", whole("Q\r\n"), LF, whole("\n"), "room 4", whole("\n"), "room 256")
+    watch("room 3", whole("Q\r\n"), LF, whole("\n"), "room 4", whole("\n"), "room 384")
 
 
 def buffer_no_room():
@@ -1082,7 +1132,7 @@ def buffer_no_room():
     watch("room 4", whole("Q\r\nT\r\nSI\r"), whole("\n"), "room 5", whole("\n"))
     watch("room 16", whole("@\r\n"))
     watch("room 4", whole("Q\r\nQ\rQ\n"), "room 0", whole("Q\r", 0), whole("\r\r"), whole("\n"))
-    watch("room 256", whole("\n"))
+    watch("room 384", whole("\n"))
 
 
 def buffer_stops():
@@ -1096,24 +1146,24 @@ def buffer_stops():
     # @, which ends a wait and a repetition; SIR and SR, in a room of 17 and of 18.
     watch("u 1", "room 15", whole("T\r\n@\r\n"), "room 16", whole("\n"))
     watch("room 17", whole("SIR\r\nSI\r\n"), "room 18", whole("\nQ\r\n"), "room 4", whole("\n"))
-    watch("room 256", "s 0", "room 17", whole("SR\r\n"), "room 18", whole("\nSR 1 g\r\n"))
+    watch("room 384", "s 0", "room 17", whole("SR\r\n"), "room 18", whole("\nSR 1 g\r\n"))
     watch(whole("\n"), "u 1000000", "room 3", whole("SRX\r\n", 1), "room 4", whole("\n"))
     watch("room 18", "s 0")
     # A faulty byte before the stop and after it.
     watch("room 4", whole("Q\r\nDW\r\n", 3), whole("\n"))
     watch(whole("Q\r\nDW\r\n", 0, 6), whole("W\r\n"))
-    watch("room 256", whole("\r\n"))
+    watch("room 384", whole("\r\n"))
 
 
 def buffer_large_rooms():
-    part("Rooms of 255, 256, 257, 4095 and 4096: sixteen lists have 3,904 bytes, "
-         "with 48 of ES 4,096.")
+    part("Rooms of 269, 270, 271, 4095 and 4096: fifteen lists have 3,870 bytes, "
+         "with DW A and 55 of ES 4,096.")
     power_on()
-    for room in (255, 256, 257):
-        watch(f"room {room}", whole("I0\r\nZ I\r\nQ\r\nQ\r\nQ\r\n"), "room 256", whole("\r\n"))
-    lists = "I0\r\n" * 16
-    watch("room 4096", whole(lists + "Q\r\n" * 48), "room 4095", whole(lists + "Q\r\n" * 48))
-    watch(whole("\n"), whole("I0\r\n" * 17), whole("\n"), "room 256")
+    for room in (269, 270, 271):
+        watch(f"room {room}", whole("I0\r\nZ I\r\nQ\r\nQ\r\nQ\r\n"), "room 384", whole("\r\n"))
+    lists = "I0\r\n" * 15 + "DW\r\n" + "Q\r\n" * 55
+    watch("room 4096", whole(lists), "room 4095", whole(lists))
+    watch(whole("\n"), whole("I0\r\n" * 16), whole("\n"), "room 384")
 
 
 def buffer_lengths():
@@ -1128,9 +1178,9 @@ def buffer_lengths():
     watch(whole("\n", word="w-"), whole("\n", word="w+"), whole("\n"))
     # 256 bytes in a room of 0: all that end no line; CR and LF.
     watch("room 0", whole("S" * 256), whole("\r" * 256), whole("\n" * 256), "room 4")
-    watch(whole("\n" * 256), whole("\r" * 255), whole("\n" * 256), "room 256", whole("\r\n"))
+    watch(whole("\n" * 256), whole("\r" * 255), whole("\n" * 256), "room 384", whole("\r\n"))
     # As many lines as 4,096 bytes can hold, in the largest room, which holds half of the answers.
-    watch("room 4096", whole("\r\n" * 2048), "room 256", whole("\n"))
+    watch("room 4096", whole("\r\n" * 2048), "room 384", whole("\n"))
 
 
 def buffer_refusals():
@@ -1139,7 +1189,7 @@ def buffer_refusals():
                whole("\n"))
     power_on()
     play("s 5000", "> Z", "s 7000", "> T", good("Q\r"))
-    for room in (256, 0):
+    for room in (384, 0):
         play(f"room {room}")
         # The profile is broken; the zero is above R; the tare is above C.
         for given in (BROKEN, profile(r=4999), small(c=1999, u=1000, r=1999)):
@@ -1148,7 +1198,7 @@ def buffer_refusals():
     play(BROKEN, whole("\n" * 4097), profile(r=4999), whole("\n" * 4097), "state")
     # Neither; in a room of 0, then of 4.
     play(PROFILE_A)
-    watch("w", "w+", whole("\n", word="w-"), whole("\n"), "room 4", whole("\n"), "room 256")
+    watch("w", "w+", whole("\n", word="w-"), whole("\n"), "room 4", whole("\n"), "room 384")
     # A wait with W samples counted; a repetition of SR whose last net is above C.
     power_on()
     play("> S", "u 1", "u 2", profile(w=3), "w", profile(w=2), *buffers, "state", PROFILE_A, "u 3")
@@ -1163,6 +1213,7 @@ TALK = [
     ("SIR", 18), ("TA 100.00 g", 19), ('D "HALLO 1"', 5), ("S\x00", 4), ("@", 16),
     ("TI", 19), ("Z", 5), ("ZI", 6), ("SR 10.00 g", 18), ("TA 1 kg", 6), ("I5", 9), ("SRX", 4),
     ("", 4), ("D", 5), ("S", 18), ("SR", 18), ("S 1", 4),
+    ("M21 0 5", 7), ("SI", 19), ("M21", 11), ("M21 0 0", 7),
 ]
 
 
@@ -1183,12 +1234,13 @@ def sent_in_full(room):
 def buffer_drivers():
     part("A driver that sends again what was not taken, in several rooms: "
          "the answers are the same.")
-    for room in (24, 25, 42, 43, 100, 256, 272, 273, 4096):
-        play("room 256")
+    every = sum(size for _, size in TALK)
+    for room in (24, 25, 42, 43, 100, 256, every - 1, every, 4096):
+        play("room 384")
         power_on()
         play("s 5000", f"room {room}")
         sent_in_full(room)
-    play("room 256")
+    play("room 384")
 
 
 def buffer_conversation():
@@ -1233,17 +1285,18 @@ def typed_steps():
     # Every unit and step; the largest number that can be typed.
     for unit in UNITS:
         for k in (1, 2, 5):
-            power_on(small(c=10_000_000, unit=unit, d=2, k=k))
+            power_on(small(c=100_000_000, unit=unit, d=2, k=k))
             play(*typed_halves(3, unit, 2, k), f"> TA 9999999999 {unit}", "state")
 
 
 # Weights halfway between two micrograms: unit, decimals, half last places, and the micrograms that
-# they are rounded to. The steps of g, mg and ct are whole micrograms.
+# they are rounded to. The steps of g, mg, ct and kg are whole micrograms.
 SECOND_TIES = [
     ("oz", 5, 800_000, 113_398_093),
     ("ozt", 5, 62_500, 9_719_837),
     ("GN", 4, 1_000_000, 3_239_946),
     ("dwt", 4, 125_000, 9_719_837),
+    ("lb", 5, 10_000, 22_679_619),
 ]
 
 
@@ -1267,9 +1320,9 @@ def typed_limits():
     part("L above C: the microgram result alone is compared, at C and a microgram beside it.")
     power_on()
     watch("> TA 220.000001 g", "> TA 220.000049 g", "> TA 220.00005 g")
-    power_on(small(c=1_000_000_000, d=0, k=5))
+    power_on(wide(c=1_000_000_000, d=0, k=5))
     watch("> TA 1002.4 g", "> TA 1002.5 g")
-    power_on(small(c=1_000_000_000, unit="oz", d=0, k=5))
+    power_on(wide(c=1_000_000_000, unit="oz", d=0, k=5))
     watch("> TA 37.4 oz", "> TA 37.5 oz")
     # Below C as it is typed, above it once rounded.
     power_on(small(c=218_000_000, d=0, k=5))
@@ -1292,6 +1345,225 @@ def typed_thresholds():
     watch("> SR 4 oz", "> @", "> SR 1.000005 oz", "> @")
 
 
+# ---- Document 02, No. 5: units by command
+
+
+def unit_codes():
+    part("M21 tells the unit in force, and each code sets its unit; "
+         "the unit in force may be set again.")
+    power_on()
+    watch("> M21", "> M21 0 5", "> M21", "> M21 0 5", "> M21")
+    for unit in UNITS:
+        watch(set_unit(unit), "> M21", set_unit(unit), "> M21")
+    # With and without a sample; the last lines of I0.
+    watch("s 1000", "> M21", set_unit("g"), "> I0")
+
+
+def unit_parameters():
+    part("M21's parameters: a single space, 0, a single space and a code as it is written; "
+         "all else is L and sets nothing.")
+    power_on()
+    play(set_unit("ct"))
+    # A lone space; one number; spaces.
+    play("> M21 ", "> M21  ", "> M21 0", "> M21 0 ", "> M21 5")
+    play("> M21 0  5", "> M21  0 5", "> M21 0 5 ")
+    # Zeros before a number, signs, another display, other characters.
+    play("> M21 0 05", "> M21 00 5", "> M21 0 00", "> M21 0 +5", "> M21 0 -0", "> M21 +0 5")
+    play("> M21 1 5", "> M21 2 5", "> M21 x", "> M21 0 x", "> M21 0 ct", "> M21 0 5x")
+    play("> M21 0 5 0", '> M21 "0" 5', "> M21 0 0.0")
+    # Every number up to 30 that is no code; 20 is another unit's.
+    for code in range(31):
+        if code not in CODES.values():
+            play(f"> M21 0 {code}")
+    # As much more as a byte, two or four hold; an answer.
+    play("> M21 0 256", "> M21 0 261", "> M21 0 65536", "> M21 0 65541")
+    play("> M21 0 4294967296", "> M21 0 4294967301", "> M21 0 18446744073709551621", "> M21 A 0 0")
+    # A byte below 32 goes before, and more than 64 bytes.
+    play("> M21 0\t5", "> M21 0 5\r", "> M21 0 " + "0" * 60 + "5")
+    # No names.
+    play("> M2", "> M211", "> M", "> M 21", "> M20", "> M22", "> m21", "> M21,0", "> M210 5")
+    watch("> M21")
+
+
+def unit_waiting():
+    part("While a command waits M21 is I, with wrong parameters too, and sets nothing; "
+         "after the wait it sets again.")
+    for name in WAITING:
+        power_on()
+        watch("> " + name, "> M21", "> M21 0 5", "> M21 0 2", "> M21 ", "> M21 x", "> M2")
+        watch("s 14256050", "> M21", "> M21 0 5", "> SI")
+    # A wait in another unit, answered in it.
+    for name in WAITING:
+        power_on(profile(unit="oz"))
+        watch("> " + name, "u 1", "s 3000000")
+    # Out of patience.
+    power_on(profile(unit="dwt"))
+    watch("> T", "u 1", "> M21 0 0", "u 2", "u 3", "> M21")
+
+
+def unit_weights():
+    part("One load in every unit, by S, SI, T, TI and TA, and SIR and SR.")
+    power_on()
+    play("s 14256050")
+    for unit in UNITS:
+        play(set_unit(unit), "> S", "u 14256050", "> SI", "> TI", "> TA", "s 14256050", "> T")
+        watch("> SI", "> TAC", "> SIR", "s -1000000", "> SR", "> S", "s 14256050")
+    # Out of range is so in micrograms.
+    for unit in UNITS:
+        play(set_unit(unit), "s 220000000", "> S", "s 220000001", "> S", "s -1000001", "> S")
+
+
+def unit_moves():
+    part("From each unit to each.")
+    power_on()
+    play("s 14256050")
+    for first in UNITS:
+        for second in UNITS:
+            play(set_unit(first), set_unit(second), "> M21", "> SI")
+
+
+def unit_kept():
+    part("@ keeps the unit, a power-on sets g; the other commands keep it.")
+    power_on()
+    watch("> M21 0 5", "> @", "> M21", "on", "> M21")
+    watch("> M21 0 7", "s 1000", '> D "x"', "> @")
+    for name in NAMES:
+        watch("> " + name)
+    # Other profiles keep it too, and a refused power-on.
+    watch("> M21 0 8", profile(w=1), "> M21", PROFILE_A, "room 15", "on", "room 384", "> M21")
+    watch(profile(unit="oz", d=3, k=5), "> SI", PROFILE_A, "> SI", "on", "> SI")
+
+
+def unit_goes_on():
+    part("M21 sends nothing but its answer and ends nothing: SIR and SR go on in the new unit.")
+    power_on()
+    watch("s 14256050", "> SIR", "> M21 0 5", "s 14256050", "> M21", "u 14256050", "> M21 0 x")
+    watch("u 14256050", "> M21 0 1", "u 14256050", "s 220000001", "s 14256050")
+    watch("> M21 0 0", "> SR", "> M21 0 3", "s 24256050", "u 34256050", "> M21 0 10", "s 34256050")
+    watch("> M21", "> M21 x", "s 220000001", "> M21 0 5", "s 34256050", "s 44256050")
+    # The display stays.
+    watch('> D "TEXT"', "> M21 0 0", "> DW")
+
+
+def unit_tares():
+    part("The tare stays in micrograms; it is typed in the unit in force, and rounded to its step.")
+    power_on()
+    watch("> M21 0 8", "> TA 4 oz", "> M21 0 0", "> TA", "> M21 0 3", "> TA")
+    watch("> TA 1 g", "> SR 1 g")
+    watch("> M21 0 1", "> TA 0.224 kg", "> TA 0.225 kg", "> TA 0.004 kg")
+    watch("> TA 999.999999 kg", "> TA 9999999999 kg", "> TA")
+    watch("> M21 0 7", "> TA 0.485 lb", "> TA 0.484999 lb", "> TA 0.49 lb", "> TA 9999999999 lb")
+    # T to the microgram, shown in each unit, with the net beside it.
+    watch("> M21 0 0", "s 14256049", "> T", "s 20000001")
+    for unit in UNITS:
+        watch(set_unit(unit), "> TA", "> SI")
+    # Every unit typed, and every other one refused.
+    power_on()
+    for unit in UNITS:
+        play(set_unit(unit))
+        for other in UNITS:
+            play(f"> TA 0.05 {other}")
+        play("state")
+
+
+def unit_thresholds():
+    part("A set threshold of SR stays in micrograms.")
+    power_on()
+    watch("s 0", "> SR 0.01 g", "> M21 0 5", "s 9999", "s 10000")
+    watch("s 0", "> M21 0 8", "s 9999", "s 20000")
+    # Typed in each unit, to the microgram.
+    for unit in UNITS:
+        watch("> @", set_unit(unit), f"> SR 0.001 {unit}", "> M21 0 0")
+        watch("> @", set_unit(unit), f"> SR 0.000001 {unit}")
+    # A threshold above C.
+    watch("> @", "> M21 0 1", "> SR 0.22 kg", "> @", "> SR 0.220001 kg", "> SR 9999999999 kg")
+    watch("> M21 0 7", "> SR 0.485016 lb", "> @", "> SR 0.485017 lb", "> SR 9999999999 lb")
+
+
+def unit_steps():
+    part("Without one, the 30 display steps of SR are those of the unit in force at each sample.")
+    power_on()
+    watch("s 0", "> SR", "> M21 0 5", "s 3000", "s 59999", "s 60000")
+    watch("> M21 0 0", "s 67499", "s 67500")
+    # lb and kg, whose steps are the largest: 136,077,711 and 300,000,000 micrograms.
+    power_on(profile(c=500_000_000))
+    watch("s 0", "> SR", "> M21 0 7", "s 136077710", "s 136077711")
+    power_on(profile(c=500_000_000))
+    watch("s 0", "> SR", "> M21 0 1", "s 299999999", "s 300000000")
+    # Owed in one unit and sent in another; out of range in one and back in another.
+    power_on()
+    watch("s 0", "> SR", "u 5000", "> M21 0 3", "s 0", "s 220000001", "> M21 0 0")
+    watch("s 0", "s 2999", "s 3000")
+
+
+def unit_profiles():
+    part("The profile is tested in all nine units, whichever is in force: "
+         "the nets of mg decide for profile A.")
+    switch_on(profile(c=998_999_994))
+    switch_on(profile(c=998_999_995))
+    switch_on(profile(c=998_999_995, mg=(1, 1)))
+    # GN's step is below a microgram, though g is in force.
+    switch_on(profile(GN=(5, 1)))
+    switch_on(small(c=1_000_000, GN=(5, 1)))
+    switch_on(small(c=1_000_000, GN=(5, 2)))
+    # A unit that is not in force, at each call; mended, all is as before.
+    for unit in UNITS:
+        power_on(profile(unit=unit))
+        play("s 5000", "> TI", profile(lb=(7, 1)), "s 1", good("S"), whole("S"), "on")
+        play(profile(g=(4, 3)), "s 1", PROFILE_A, "> M21", "state")
+
+
+def unit_limits():
+    part("Each unit's limits broken alone, with g in force and with the unit itself.")
+    for unit in UNITS:
+        for d in (0, 6, 7, 255):
+            switch_on(small(**{unit: (d, 1)}))
+        for k in (0, 2, 3, 4, 5, 6, 10, 255):
+            switch_on(small(**{unit: (2, k)}))
+        power_on(profile(unit=unit))
+        play(profile(**{unit: (7, 1)}), good("S"), profile(**{unit: (2, 3)}), good("S"))
+        play(PROFILE_A, "> M21")
+    for unit, d, k in FINEST + TOO_FINE:
+        switch_on(small(**{unit: (d, k)}))
+
+
+def unit_refusals():
+    part("What is refused sets no unit: by 1, by 2, by 3.")
+    power_on()
+    play("s 5000", "> Z")
+    # By 1 and by 2, at the LF; then taken.
+    play(good("M21 0 5\r"), BROKEN, LF, profile(r=4999), LF, PROFILE_A, "state", LF, "state")
+    # By 3.
+    for room in (0, 6):
+        watch(f"room {room}", "> M21 0 8", "room 384", "> ")
+    watch("room 7", "> M21 0 8", "room 384")
+
+
+def unit_rooms():
+    part("Rooms: the query has 11 bytes, of GN and dwt 12.")
+    power_on()
+    for unit, code in CODES.items():
+        size = len(f"M21 A 0 {code}") + 2
+        play("room 7", set_unit(unit), f"room {size - 1}", "> M21", f"room {size}", LF)
+    # I0 in a room one too short, and in its own.
+    watch("room 257", "> I0", "room 258", LF, "room 384")
+
+
+def unit_buffers():
+    part("M21 in a whole buffer: what follows is answered in the new unit, and where it stops "
+         "the unit is that of the bytes taken.")
+    power_on()
+    watch("s 14256050", whole("SI\r\nM21 0 5\r\nSI\r\nM21\r\nM21 0 1\r\nSI\r\n@\r\nSI\r\n"))
+    watch(whole("M21 0 2\r\nM21 0 0\r\nM21 \r\n"))
+    watch("room 6", whole("M21 0 5\r\nSI\r\n"), "room 7", whole("\nSI\r\n"), "room 18", whole("\n"))
+    watch("room 19", whole("\nM21 0 0\r\n"), "room 7", whole("\nM21\r\n"), "room 11", whole("\n"))
+    watch("room 384", whole("M21 0 5\r\n", 5), whole("M21\r\n"))
+    # Every unit, with a tare typed in it.
+    said = "".join(f"M21 0 {code}\r\nM21\r\nSI\r\nTA 0.05 {unit}\r\nSI\r\nTAC\r\n"
+                   for unit, code in CODES.items())
+    watch("room 4096", whole(said), "room 384")
+
+
 def conversation():
     part("Document 01's conversation.")
     power_on()
@@ -1305,7 +1577,7 @@ def other_lines():
     play("states", "stat", "state\r", "state\t", "# state")
     play("on ", " on", "ON", "of")
     # Words alone.
-    play("b", "f", ">", "s", "u", "b ", "f ", "s ", "u ", "text", "room", "profile")
+    play("b", "f", ">", "s", "u", "b ", "f ", "s ", "u ", "text", "room")
     # Bytes: two hexadecimal digits each, one space before each.
     play("b 5", "b 530", "b 53 ", "b  53", "b 53  0D", "b 5G", "b 53 0D 0")
     play("b 44 57 0D 0A x", "f 53,0D", "b 53\r")
@@ -1325,17 +1597,20 @@ def other_lines():
     # Texts: 2 to 5, one space on each side.
     play("text 1 x", "text 6 x", "text 2", "text 2x", "text 22 x")
     play("text  2 x", "text -2 x", "Text 2 x")
-    # Profiles: seven values, single spaces.
-    play("profile", "profile 1 1 1 1 g 4", "profile 1 1 1 1 g 4 1 ")
-    play("profile 1 1 1 1 g 4 1 1", "profile  1 1 1 1 g 4 1")
-    # Profiles: one of the seven units.
-    play("profile 1 1 1 1 kg 4 1", "profile 1 1 1 1 G 4 1", "profile 1 1 1 1  4 1")
-    # Profiles: no minus; four values of 32 bits and two of 8.
-    play("profile -1 1 1 1 g 4 1")
-    play("profile 4294967296 1 1 1 g 4 1", "profile 1 4294967296 1 1 g 4 1")
-    play("profile 1 1 4294967296 1 g 4 1", "profile 1 1 1 4294967296 g 4 1")
-    play("profile 1 1 1 1 g 256 1", "profile 1 1 1 1 g 4 256")
-    play("profile 1 1 1 1 g 4 1\r")
+    # Profiles: four values of 32 bits, single spaces, no minus; the old line had seven.
+    play("profile", "profile ", "profile 1 1 1", "profile 1 1 1 ", "profile 1 1 1 1 ")
+    play("profile 1 1 1 1 1", "profile  1 1 1 1", "profile 1 1 1 1 g 4 1", "profile 1 1 1 x")
+    play("profile -1 1 1 1", "profile 1 1 1 1\r", "Profile 1 1 1 1", "profile 1 1  1 1")
+    for place in range(4):
+        for value in ("4294967296", "00000000001", "9999999999"):
+            play("profile " + " ".join(value if at == place else "1" for at in range(4)))
+    # Units: one of the nine, and two values of 8 bits.
+    play("unit", "unit ", "unit g", "unit g ", "unit g 4", "unit g 4 ", "unit g 4 1 ")
+    play("unit g 4 1 1", "unit  g 4 1", "unit g  4 1", "unit g 4  1", "unit  4 1", "unit 4 1")
+    play("Unit g 4 1", "units g 4 1", "unit,g 4 1", "uni g 4 1")
+    play("unit G 4 1", "unit gn 4 1", "unit KG 4 1", "unit k 4 1", "unit lbs 4 1", "unit 0 4 1")
+    play("unit g 256 1", "unit g 4 256", "unit g -1 1", "unit g 4 -1", "unit g 4 x", "unit g x 1")
+    play("unit g 00000000004 1", "unit g 4 00000000001", "unit g 4294967296 1", "unit g 4 1\r")
     # A comment not at the line's start, words with no space after them, no words.
     play(" # no comment", "s1", "u-1", ">S", "bb 53", "quit")
 
@@ -1347,7 +1622,8 @@ def good_forms():
     play("b 64 57 0d 0A", "b 44 57 0d 0a", "b 44 57 0D 0A")
     play("w 64 57 0d 0A", "w 44 57 0d 0a", "w 44 57 0D 0a!", "w 0D 0A", "w 0d 0D", "w 0a")
     play("s 0000000007", "s -0", "s -0000000007", "> SI")
-    play("room 4096", "room 0256", "profile 0220000000 01000000 04400000 03 g 04 01", "> TA")
+    play("room 4096", "room 0384", "profile 0220000000 01000000 04400000 03", "> TA")
+    play("unit g 04 01", "unit g 0000000004 0000000001", "unit kg 002 001", "> TA")
 
 
 def comments_and_last_line():
@@ -1361,10 +1637,10 @@ def comments_and_last_line():
 
 
 def head():
-    play("# Plays every rule of document 01 once, and document 02's No. 1 to No. 3. "
+    play("# Plays every rule of document 01 once, and document 02's No. 1, 2, 3 and 5. "
          "Its stdout is what the independent implementation prints for it.")
-    play("# Profile A stands at the start: C 220 g, U 1 g, R 4.4 g, W 3, g, 4 decimals, step 1, "
-         "I4 VA-0001, the other texts empty.")
+    play("# Profile A stands at the start: C 220 g, U 1 g, R 4.4 g, W 3, g with 4 decimals and the "
+         "eight others with 2, step 1, I4 VA-0001, the other texts empty.")
 
 
 SCRIPT = [
@@ -1444,6 +1720,22 @@ SCRIPT = [
     typed_micrograms,
     typed_limits,
     typed_thresholds,
+    # Units by command.
+    unit_codes,
+    unit_parameters,
+    unit_waiting,
+    unit_weights,
+    unit_moves,
+    unit_kept,
+    unit_goes_on,
+    unit_tares,
+    unit_thresholds,
+    unit_steps,
+    unit_profiles,
+    unit_limits,
+    unit_refusals,
+    unit_rooms,
+    unit_buffers,
     # The profile.
     text_lengths,
     text_bytes,

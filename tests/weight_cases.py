@@ -20,7 +20,7 @@ EXPECTED = pathlib.Path(__file__).resolve().parent.parent / "crates" / "weight_c
 
 # ---- document 01, "The profile" and "Weights"
 
-# The line on units: text and nanograms.
+# The line on units, with document 02, No. 5: text and nanograms.
 UNITS = {
     "g": 1_000_000_000,
     "mg": 1_000_000,
@@ -29,6 +29,8 @@ UNITS = {
     "ozt": 31_103_476_800,
     "GN": 64_798_910,
     "dwt": 1_555_173_840,
+    "kg": 1_000_000_000_000,
+    "lb": 453_592_370_000,
 }
 STEPS = (1, 2, 5)
 MOST_DECIMALS = 6
@@ -181,7 +183,7 @@ def read(text):
 def unit_cases():
     for unit, nanograms in UNITS.items():
         lines.append(f"unit {unit:3} {len(unit)} {nanograms}")
-    for text in [*UNITS, "", "G", "gn", "kg", "g ", " g", "m", "dw", "ozt ", "oztt", "DWT", "lb"]:
+    for text in [*UNITS, "", "G", "gn", "KG", "g ", " g", "m", "dw", "ozt ", "oztt", "DWT", "k", "lbs"]:
         lines.append(f'named {text if text in UNITS else "no":3} "{text}"')
 
 
@@ -210,6 +212,22 @@ def bench_cases():
     ]:
         assert printed(*case) == (text and text.rjust(WIDTH)), case
         net(*case[:3], abs(case[3]))
+
+
+def request_cases():
+    """Document 02, No. 5: one load in the eight other units, d 2, k 1."""
+    for text, unit in [
+        ("71.28", "ct"),
+        ("0.01", "kg"),
+        ("0.03", "lb"),
+        ("0.50", "oz"),
+        ("0.46", "ozt"),
+        ("220.00", "GN"),
+        ("9.17", "dwt"),
+        ("14256.05", "mg"),
+    ]:
+        assert printed(unit, 2, 1, 14_256_050) == text.rjust(WIDTH), unit
+        net(unit, 2, 1, 14_256_050)
 
 
 # The weights in grams that sources 003 and 000 print in commands and answers, each once.
@@ -243,6 +261,8 @@ def range_cases():
         ("ozt", 0, 5),
         ("GN", 4, 1),
         ("dwt", 4, 2),
+        ("kg", 6, 1),
+        ("lb", 6, 5),
     ]:
         net(*resolution, NET_LIMIT)
         net(*resolution, NET_LIMIT + 1)
@@ -296,6 +316,10 @@ def resolution_cases():
         ("ozt", 7, 5),
         ("GN", 5, 1),
         ("GN", 5, 2),
+        ("kg", 6, 1),
+        ("kg", 7, 1),
+        ("lb", 6, 1),
+        ("lb", 7, 5),
     ]:
         net(unit, decimals, step, 1_000_000)
 
@@ -338,8 +362,10 @@ def typed_tie_cases():
         ("ozt", "0.312499 0.3125! 0.312501"),
         ("GN", "49.999999 50! 50.000001 150.000000!"),
         ("dwt", "6.249999 6.25! 6.250001 18.75!"),
+        ("lb", "0.049999 0.05! 0.050001 0.15!"),
         ("g", "0.000001"),
         ("ct", "0.000001 0.000002 0.000003"),
+        ("kg", "0.000001 0.999999"),
     ]:
         for text in texts.split():
             exact = typed_micrograms(unit, text.rstrip("!"))
@@ -381,6 +407,9 @@ def preset_request_cases():
     presets("g", 0, 5, "1002.4 1002.5")
     presets("oz", 0, 5, "37.4 37.5")
     presets("oz", 5, 1, "4 1.000005 1.000004")
+    # With No. 5.
+    presets("oz", 2, 1, "4")
+    presets("kg", 2, 1, "0.224 0.225 0.004")
     # No number; no profile's resolution.
     presets("g", 4, 1, "00000000001")
     for unit, decimals, step in [("g", 4, 0), ("g", 4, 3), ("GN", 5, 1), ("oz", 7, 5)]:
@@ -402,6 +431,7 @@ def preset_second_tie_cases():
         ("ozt", 5, "0.3125! 0.312495! 0.312504! 0.312494"),
         ("GN", 4, "50! 49.99995! 50.00004! 49.99994"),
         ("dwt", 4, "6.25! 6.24995! 6.25004! 6.24994"),
+        ("lb", 5, "0.05! 0.049995! 0.050004! 0.049994"),
         ("mg", 3, "0.0005 0.000499"),
     ]:
         for text in texts.split():
@@ -491,6 +521,7 @@ def other_cases():
 def expected():
     unit_cases()
     bench_cases()
+    request_cases()
     manual_cases()
     range_cases()
     width_cases()

@@ -1,4 +1,4 @@
--- How long the line of an answer is: at most 256 bytes with a text of at most 40.
+-- How long the line of an answer is: at most 384 bytes with a text of at most 40.
 -- Assumes nothing.
 use mathlib.Core.Path.{_≡_, refl}
 use mathlib.Core.Bool.{Bool, true, false, cond}
@@ -11,7 +11,8 @@ use Rattle.weight.specs.Characters.{digit}
 use Rattle.text.specs.Ascii.{ascii}
 use Rattle.weight.specs.Places.{fitsField}
 use Rattle.text.specs.Field.{fieldOf, fieldIf, blank}
-use Rattle.text.specs.UnitTexts.{unitText}
+use Rattle.weight.specs.declared.units.WeightUnit.{WeightUnit}
+use Rattle.text.specs.UnitTexts.{unitText, unitCode}
 use Rattle.text.proofs.FieldWidth.{field-length}
 use Rattle.answer.specs.declared.answer.Status.{Status}
 use Rattle.answer.specs.declared.answer.Status.the-variants.{A, B, S, D, I, L, Over, Under}
@@ -20,11 +21,11 @@ use Rattle.answer.specs.declared.answer.Number.{Number}
 use Rattle.answer.specs.declared.answer.Error.{Error}
 use Rattle.answer.specs.declared.answer.Error.the-variants.{Syntax, Transmission, Logical}
 use Rattle.answer.specs.declared.answer.Answer.{Answer}
-use Rattle.answer.specs.declared.answer.Answer.the-variants.{Nothing, Plain, Weight, ErrorLine, Text, Listed, CommandList, Versions}
+use Rattle.answer.specs.declared.answer.Answer.the-variants.{Nothing, Plain, Weight, ErrorLine, Text, Listed, CommandList, Versions, HostUnit}
 use Rattle.answer.specs.Commands.{nameOf, levelOf}
 use Rattle.answer.specs.Lines.{lineEnd, quoted, statusText, headText, weightText, listedLine, listedFrom, lineOf}
 use Rattle.answer.proofs.Names.{name-short}
-use Rattle.text.proofs.Named.{unit-short}
+use Rattle.text.proofs.Named.{unit-short, code-short}
 
 -- ---- the parts
 
@@ -113,8 +114,8 @@ pub listed-length : (last : Bool) (c : ℕ) (t : List ℕ) → length (lineOf (L
 unfolding lineOf listedLine
 listed-length last c t = listed-parts (cond last (ascii "A") (ascii "B")) (digit (levelOf c) ∷ []) (nameOf c) (mark-length last) refl
 
--- all lines of I0: document 01's 231 bytes and 13 of SR
-pub list-length : (t : List ℕ) → length (lineOf CommandList t) ≡ 244
+-- all lines of I0: document 01's 231 bytes, 13 of SR and 14 of M21
+pub list-length : (t : List ℕ) → length (lineOf CommandList t) ≡ 258
 unfolding lineOf listedFrom listedLine
 list-length t = refl
 
@@ -122,8 +123,12 @@ pub versions-length : (t : List ℕ) → length (lineOf Versions t) ≡ 24
 unfolding lineOf
 versions-length t = refl
 
--- 256 bytes always suffice
-pub line-limit : (a : Answer) (t : List ℕ) → length t ≤ 40 → length (lineOf a t) ≤ 256
+pub unit-length : (u : WeightUnit) (t : List ℕ) → length (lineOf (HostUnit u) t) ≡ length (unitCode u) + 10
+unfolding lineOf
+unit-length u t = omega (arith, length-append (ascii "M21 A 0 ") (unitCode u), with-end (ascii "M21 A 0 " ++ unitCode u))
+
+-- 384 bytes always suffice
+pub line-limit : (a : Answer) (t : List ℕ) → length t ≤ 40 → length (lineOf a t) ≤ 384
 unfolding lineOf
 line-limit Nothing t h = omega arith
 line-limit (Plain s) t h = omega (arith, plain-length s t, name-short (s .identification))
@@ -133,12 +138,13 @@ line-limit (Text c) t h = omega (arith, text-length c t, name-short c)
 line-limit (Listed last c) t h = omega (arith, listed-length last c t, name-short c)
 line-limit CommandList t h = omega (arith, list-length t)
 line-limit Versions t h = omega (arith, versions-length t)
+line-limit (HostUnit u) t h = omega (arith, unit-length u t, code-short u)
 
--- the first and the last line of I0
+-- the first line of I0 and the last two
 pub list-first : (t : List ℕ) → take 13 (lineOf CommandList t) ≡ ascii "I0 B 0 \"I0\"\r\n"
 unfolding lineOf listedFrom listedLine
 list-first t = refl
 
-pub list-last : (t : List ℕ) → drop 231 (lineOf CommandList t) ≡ ascii "I0 A 1 \"TI\"\r\n"
+pub list-last : (t : List ℕ) → drop 231 (lineOf CommandList t) ≡ ascii "I0 B 1 \"TI\"\r\nI0 A 2 \"M21\"\r\n"
 unfolding lineOf listedFrom listedLine
 list-last t = refl

@@ -11,7 +11,7 @@ use lib.Dec.{leb, ltb, eqb}
 use lib.ListN.{length, getD, List·getD-eq-default}
 use Rattle.weight.proofs.Allowed.{both-left, both-right}
 use Rattle.answer.specs.declared.command.Kind.{Kind}
-use Rattle.answer.specs.declared.command.Kind.the-variants.{Informs, Weighs, Zeroes, Resets, Shows, Sends, Tares, Unknown}
+use Rattle.answer.specs.declared.command.Kind.the-variants.{Informs, Weighs, Zeroes, Resets, Shows, Sends, Tares, Selects, Unknown}
 use Rattle.answer.specs.Commands.{
   Command,
   commands,
@@ -36,6 +36,7 @@ use Rattle.answer.specs.Commands.{
   placeT,
   placeTA,
   placeTI,
+  placeM21,
   hasText,
   isI0,
   isI1,
@@ -52,6 +53,7 @@ use Rattle.answer.specs.Commands.{
   isTA,
   isTAC,
   isTI,
+  isM21,
 }
 
 -- ---- a test of each row with its place, counted from i
@@ -103,16 +105,19 @@ past-all c k known past = ne-eqb c k (λ e. omega arith)
 
 -- ---- level
 
-pub level-is : (c : ℕ) → cond (ltb c placeD) 0 1 ≡ levelOf c
-level-is = row-value eqb eqb-true (λ c. cond (ltb c placeD) 0 1) (λ r. r .level) refl (λ c past. rw (le-ltb c placeD (omega arith)))
+pub level-is : (c : ℕ) → cond (ltb c placeD) 0 (cond (ltb c placeM21) 1 2) ≡ levelOf c
+level-is =
+    row-value eqb eqb-true (λ c. cond (ltb c placeD) 0 (cond (ltb c placeM21) 1 2)) (λ r. r .level) refl
+    (λ c past. rw (le-ltb c placeD (omega arith), le-ltb c placeM21 (omega arith)))
 
--- no level is over 1
-pub level-small : (c : ℕ) → levelOf c ≤ 1
-level-small c = rw (← (level-is c)) (level-by (ltb c placeD))
+-- no level is over 2
+pub level-small : (c : ℕ) → levelOf c ≤ 2
+level-small c = rw (← (level-is c)) (level-by (ltb c placeD) (ltb c placeM21))
   where
-    level-by : (b : Bool) → cond b 0 1 ≤ 1
-    level-by true = zero-le
-    level-by false = omega arith
+    level-by : (a b : Bool) → cond a 0 (cond b 1 2) ≤ 2
+    level-by true b = zero-le
+    level-by false true = omega arith
+    level-by false false = omega arith
 
 -- ---- parameters, a sample, a wait
 
@@ -126,10 +131,15 @@ same-is true false e = absurd (false≢true e)
 same-is false true e = absurd (false≢true e)
 same-is false false e = refl
 
-pub parameters-are : (c : ℕ) → (isD c || isSR c || isTA c) ≡ takesParameters c
+pub parameters-are : (c : ℕ) → (isD c || isSR c || isTA c || isM21 c) ≡ takesParameters c
 parameters-are =
-    row-value same same-is (λ c. isD c || isSR c || isTA c) (λ r. r .parameters) refl
-    (λ c past. rw (past-all c placeD (omega arith) past, past-all c placeSR (omega arith) past, past-all c placeTA (omega arith) past))
+    row-value same same-is (λ c. isD c || isSR c || isTA c || isM21 c) (λ r. r .parameters) refl
+    (λ c past. rw (
+      past-all c placeD (omega arith) past,
+      past-all c placeSR (omega arith) past,
+      past-all c placeTA (omega arith) past,
+      past-all c placeM21 (omega arith) past,
+    ))
 
 pub samples-are : (c : ℕ) → (isSI c || isSIR c || isZI c || isTI c) ≡ needsSample c
 samples-are =
@@ -161,10 +171,11 @@ numberOfKind Resets = 3
 numberOfKind Shows = 4
 numberOfKind Sends = 5
 numberOfKind Tares = 6
-numberOfKind Unknown = 7
+numberOfKind Selects = 7
+numberOfKind Unknown = 8
 
 abbrev kinds : List Kind
-kinds = Informs ∷ Weighs ∷ Zeroes ∷ Resets ∷ Shows ∷ Sends ∷ Tares ∷ []
+kinds = Informs ∷ Weighs ∷ Zeroes ∷ Resets ∷ Shows ∷ Sends ∷ Tares ∷ Selects ∷ []
 
 kind-back : (k : Kind) → getD kinds (numberOfKind k) Unknown ≡ k
 kind-back Informs = refl
@@ -174,6 +185,7 @@ kind-back Resets = refl
 kind-back Shows = refl
 kind-back Sends = refl
 kind-back Tares = refl
+kind-back Selects = refl
 kind-back Unknown = refl
 
 abbrev sameKind : Kind → Kind → Bool
@@ -188,7 +200,9 @@ kindIn c =
     cond (leb c placeI5) Informs
     (cond (leb c placeSIR) Weighs
     (cond (leb c placeZI) Zeroes
-    (cond (leb c placeReset) Resets (cond (leb c placeDW) Shows (cond (leb c placeSR) Sends (cond (leb c placeTI) Tares Unknown))))))
+    (cond (leb c placeReset) Resets
+    (cond (leb c placeDW) Shows
+    (cond (leb c placeSR) Sends (cond (leb c placeTI) Tares (cond (leb c placeM21) Selects Unknown)))))))
 
 kind-is : (c : ℕ) → kindIn c ≡ kindOf c
 kind-is =
@@ -201,6 +215,7 @@ kind-is =
       lt-leb c placeDW (omega arith),
       lt-leb c placeSR (omega arith),
       lt-leb c placeTI (omega arith),
+      lt-leb c placeM21 (omega arith),
     ))
 
 module _ (c : ℕ) where
@@ -251,18 +266,34 @@ module _ (c : ℕ) where
                     le-leb c placeTI h,
                   )
 
-              pub unknown-from : placeTI < c → Unknown ≡ kindOf c
-              unknown-from t =
-                  rw (
-                    ← (kind-is c),
-                    lt-leb c placeI5 i,
-                    lt-leb c placeSIR w,
-                    lt-leb c placeZI z,
-                    lt-leb c placeReset r,
-                    lt-leb c placeDW d,
-                    lt-leb c placeSR s,
-                    lt-leb c placeTI t,
-                  )
+              module _ (t : placeTI < c) where
+                pub selects-to : c ≤ placeM21 → Selects ≡ kindOf c
+                selects-to h =
+                    rw (
+                      ← (kind-is c),
+                      lt-leb c placeI5 i,
+                      lt-leb c placeSIR w,
+                      lt-leb c placeZI z,
+                      lt-leb c placeReset r,
+                      lt-leb c placeDW d,
+                      lt-leb c placeSR s,
+                      lt-leb c placeTI t,
+                      le-leb c placeM21 h,
+                    )
+
+                pub unknown-from : placeM21 < c → Unknown ≡ kindOf c
+                unknown-from m =
+                    rw (
+                      ← (kind-is c),
+                      lt-leb c placeI5 i,
+                      lt-leb c placeSIR w,
+                      lt-leb c placeZI z,
+                      lt-leb c placeReset r,
+                      lt-leb c placeDW d,
+                      lt-leb c placeSR s,
+                      lt-leb c placeTI t,
+                      lt-leb c placeM21 m,
+                    )
 
 -- ---- the commands of a kind
 
@@ -303,6 +334,9 @@ module _ (c : ℕ) (known : c < commandCount) where
 
   pub taring-is : kindOf c ≡ Tares → (isT c || isTA c || isTAC c || isTI c) ≡ true
   taring-is = of-kind Tares (λ i. isT i || isTA i || isTAC i || isTI i) refl c known
+
+  pub selecting-is : kindOf c ≡ Selects → isM21 c ≡ true
+  selecting-is = of-kind Selects isM21 refl c known
 
   -- no command of the table is unknown
   pub is-known : kindOf c ≡ Unknown → ⊥

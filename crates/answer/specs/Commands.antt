@@ -1,4 +1,4 @@
--- Document 01, "Commands carried": the commands in the order in which I0 lists them, what each of them is, and their places.
+-- Document 01, "Commands carried", and document 02: the commands in the order in which I0 lists them, what each of them is, and their places.
 -- Assumes nothing.
 use Prim.Native.Nat.{ℕ, suc, _+_, _-_, _*_}
 use Prim.Native.String.{String}
@@ -7,7 +7,7 @@ use mathlib.Core.List.{List, [], _∷_, map}
 use lib.Dec.{leb, eqb}
 use lib.ListN.{length, getD}
 use Rattle.answer.specs.declared.command.Kind.{Kind}
-use Rattle.answer.specs.declared.command.Kind.the-variants.{Informs, Weighs, Zeroes, Resets, Shows, Sends, Tares, Unknown}
+use Rattle.answer.specs.declared.command.Kind.the-variants.{Informs, Weighs, Zeroes, Resets, Shows, Sends, Tares, Selects, Unknown}
 use Rattle.text.specs.Ascii.{ascii, sameText}
 
 -- ---- the table
@@ -54,11 +54,12 @@ commands =
     ∷ command "TA" 1 Tares yes no no
     ∷ command "TAC" 1 Tares no no no
     ∷ command "TI" 1 Tares no yes no
+    ∷ command "M21" 2 Selects yes no no
     ∷ []
 
 -- past the end there is none
 abbrev pub noCommand : Command
-noCommand = command "" 1 Unknown no no no
+noCommand = command "" 2 Unknown no no no
 
 abbrev pub commandCount : ℕ
 commandCount = length commands
@@ -158,9 +159,12 @@ placeTAC = suc placeTA
 abbrev pub placeTI : ℕ
 placeTI = suc placeTAC
 
+abbrev pub placeM21 : ℕ
+placeM21 = suc placeTI
+
 -- the last command
 abbrev pub lastPlace : ℕ
-lastPlace = placeTI
+lastPlace = placeM21
 
 abbrev pub isI0 : ℕ → Bool
 isI0 c = eqb c placeI0
@@ -218,6 +222,9 @@ isTAC c = eqb c placeTAC
 
 abbrev pub isTI : ℕ → Bool
 isTI c = eqb c placeTI
+
+abbrev pub isM21 : ℕ → Bool
+isM21 c = eqb c placeM21
 
 -- I2 to I5, whose answer is a text
 abbrev pub hasText : ℕ → Bool

@@ -1,4 +1,5 @@
--- The lines of an answer: document 01, "Weights" (a weight answer), "Receiving" (ES, ET, EL, I, L) and "What each command does".
+-- The lines of an answer: document 01, "Weights" (a weight answer), "Receiving" (ES, ET, EL, I, L) and "What each command does"; document
+-- 02, No. 5 (M21).
 -- Assumes nothing.
 use Prim.Native.Nat.{ℕ, zero, suc, _+_}
 use mathlib.Core.Bool.{Bool, cond}
@@ -12,11 +13,11 @@ use Rattle.answer.specs.declared.answer.Number.{Number}
 use Rattle.answer.specs.declared.answer.Error.{Error}
 use Rattle.answer.specs.declared.answer.Error.the-variants.{Syntax, Transmission, Logical}
 use Rattle.answer.specs.declared.answer.Answer.{Answer}
-use Rattle.answer.specs.declared.answer.Answer.the-variants.{Nothing, Plain, Weight, ErrorLine, Text, Listed, CommandList, Versions}
+use Rattle.answer.specs.declared.answer.Answer.the-variants.{Nothing, Plain, Weight, ErrorLine, Text, Listed, CommandList, Versions, HostUnit}
 use Rattle.answer.specs.Commands.{names, nameOf, levelOf}
 use Rattle.weight.specs.Characters.{digit}
 use Rattle.text.specs.Ascii.{ascii}
-use Rattle.text.specs.UnitTexts.{unitText}
+use Rattle.text.specs.UnitTexts.{unitText, unitCode}
 use Rattle.weight.specs.Places.{fitsField}
 use Rattle.text.specs.Field.{fieldIf}
 
@@ -74,3 +75,4 @@ lineOf (Text c) t = nameOf c ++ ascii " A " ++ quoted t ++ lineEnd
 lineOf (Listed last c) t = listedLine last c
 lineOf CommandList t = listedFrom (length names) 0
 lineOf Versions t = ascii "I1 A \"0\" \"2.30\" \"2.20\"" ++ lineEnd
+lineOf (HostUnit u) t = ascii "M21 A 0 " ++ unitCode u ++ lineEnd

@@ -49,6 +49,8 @@ pub enum Answer {
     CommandList,
     // The one line of I1.
     Versions,
+    // The unit in force, as M21 tells it.
+    HostUnit(WeightUnit),
 }
 
 // An answer of identification and status alone.

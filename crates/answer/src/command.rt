@@ -48,7 +48,9 @@ pub const TAC: u8 = TA + 1;
 
 pub const TI: u8 = TAC + 1;
 
-pub const LAST: u8 = TI;
+pub const M21: u8 = TI + 1;
+
+pub const LAST: u8 = M21;
 
 // The place of what is no command: as many as there are.
 pub const NONE: u8 = LAST + 1;
@@ -56,11 +58,12 @@ pub const NONE: u8 = LAST + 1;
 // A line of I0 has its name and this many bytes; all of them together have the names' letters, too.
 pub const LISTED_LENGTH: usize = 11;
 
-const LETTERS: usize = 35;
+const LETTERS: usize = 38;
 
 pub const LIST_LENGTH: usize = NONE as usize * LISTED_LENGTH + LETTERS;
 
-// What a command does. `Sends` is SR's, which sends on change; `Unknown` is what is no command's.
+// What a command does. `Sends` is SR's, which sends on change; `Selects` is M21's, which selects the unit; `Unknown` is what is no
+// command's.
 pub enum Kind {
     Informs,
     Weighs,
@@ -69,6 +72,7 @@ pub enum Kind {
     Shows,
     Sends,
     Tares,
+    Selects,
     Unknown,
 }
 
@@ -99,6 +103,7 @@ fn letters_of(command: u8) -> Letters
         TA => Letters(b'T', b'A', b' ', 2),
         TAC => Letters(b'T', b'A', b'C', 3),
         TI => Letters(b'T', b'I', b' ', 2),
+        M21 => Letters(b'M', b'2', b'1', 3),
         _ => Letters(b' ', b' ', b' ', 0),
     }
 }
@@ -127,7 +132,10 @@ pub fn level_of(command: u8) -> u8
     if command < D {
         return 0;
     }
-    1
+    if command < M21 {
+        return 1;
+    }
+    2
 }
 
 // The commands of a kind stand together in I0's order.
@@ -155,13 +163,16 @@ pub fn kind_of(command: u8) -> Kind
     if command <= TI {
         return Kind::Tares;
     }
+    if command <= M21 {
+        return Kind::Selects;
+    }
     Kind::Unknown
 }
 
 pub fn takes_parameters(command: u8) -> bool
     ensures { λ r. ⌜ r ≡ takesParameters command ⌝ }
 {
-    (command == D) | (command == SR) | (command == TA)
+    (command == D) | (command == SR) | (command == TA) | (command == M21)
 }
 
 pub fn needs_sample(command: u8) -> bool
@@ -241,6 +252,7 @@ fn place_of_ends(ends: u32) -> u8
         0x25441 => TA,
         0x35443 => TAC,
         0x25449 => TI,
+        0x34D31 => M21,
         _ => NONE,
     }
 }

@@ -21,6 +21,7 @@ pub use command::Kind;
 pub use command::LAST;
 pub use command::LIST_LENGTH;
 pub use command::LISTED_LENGTH;
+pub use command::M21;
 pub use command::NONE;
 pub use command::RESET;
 pub use command::S;

@@ -31,14 +31,14 @@ fn write_first(count: usize, out: &[u8]) {
 
 // One good byte of a command line.
 fn fed(state: State, byte: u8) -> State {
-    let mut out = [0u8; 256];
+    let mut out = [0u8; 384];
     let called = take_byte(profile_a(), state, byte, false, &mut out);
     write_first(called.count, &out);
     called.state
 }
 
 fn sampled(state: State, load: Load, stable: bool) -> State {
-    let mut out = [0u8; 256];
+    let mut out = [0u8; 384];
     let called = take_sample(profile_a(), state, load, stable, &mut out);
     write_first(called.count, &out);
     called.state
@@ -71,7 +71,7 @@ fn ended(state: State, entry: Entry) -> State {
 
 // Power on, and the line that it sends.
 pub fn on() -> Session {
-    let mut out = [0u8; 256];
+    let mut out = [0u8; 384];
     let called = power_on(profile_a(), start_state(), &mut out);
     write_first(called.count, &out);
     let state = called.state;

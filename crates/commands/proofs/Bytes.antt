@@ -10,7 +10,7 @@ use Rattle.model.specs.declared.state.State.{State}
 use Rattle.commands.specs.Reactions.{byteReaction, lineReaction, performed, situationOf}
 use Rattle.model.specs.Groups.{reaction, withLine}
 use Rattle.line.specs.declared.judge.Verdict.{Verdict}
-use Rattle.line.specs.declared.judge.Verdict.the-variants.{Erroneous, Reset, Busy, Wrong, NoSample, Run, Preset, Change, Show}
+use Rattle.line.specs.declared.judge.Verdict.the-variants.{Erroneous, Reset, Busy, Wrong, NoSample, Run, Preset, Change, Show, Select}
 use Rattle.line.specs.declared.receive.Line.{Line}
 use Rattle.line.specs.declared.receive.Received.{Received}
 use Rattle.line.specs.Judging.{judgement}
@@ -27,6 +27,7 @@ performed-marked p s l (Run c) = refl
 performed-marked p s l (Preset m) = refl
 performed-marked p s l (Change t) = refl
 performed-marked p s l (Show n) = refl
+performed-marked p s l (Select u) = refl
 
 abbrev ended : Profile → State → Line → Reaction
 ended p s l =

@@ -6,7 +6,7 @@ use borrow.Author.Tests.{le-leb}
 use Rattle.commands.specs.Shown.{showsShort}
 use Rattle.line.specs.declared.judge.Situation.{Situation}
 use Rattle.line.specs.declared.judge.Verdict.{Verdict}
-use Rattle.line.specs.declared.judge.Verdict.the-variants.{Erroneous, Reset, Busy, Wrong, NoSample, Run, Preset, Change, Show}
+use Rattle.line.specs.declared.judge.Verdict.the-variants.{Erroneous, Reset, Busy, Wrong, NoSample, Run, Preset, Change, Show, Select}
 use Rattle.line.specs.declared.receive.Line.{Line}
 use Rattle.line.specs.Judging.{judgement}
 use Rattle.line.proofs.Verdicts.{show-short}
@@ -22,6 +22,7 @@ module _ (j : Situation) (l : Line) where
   short-by (Preset m) h = refl
   short-by (Change t) h = refl
   short-by (Show n) h = le-leb n 20 (show-short j l h)
+  short-by (Select u) h = refl
 
   pub shows-short : showsShort (judgement j l) ≡ true
   shows-short = short-by (judgement j l) refl

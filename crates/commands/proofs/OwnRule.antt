@@ -6,7 +6,7 @@ use mathlib.Core.Bool.{Bool, true, false}
 use borrow.Author.Tests.{eq-eqb, ne-eqb}
 use Rattle.answer.specs.Commands.{kindOf, mayWait, placeSIR, placeZI, placeDW, placeT, placeTA, placeTAC, placeTI}
 use Rattle.answer.specs.declared.command.Kind.{Kind}
-use Rattle.answer.specs.declared.command.Kind.the-variants.{Informs, Weighs, Zeroes, Resets, Shows, Sends, Tares, Unknown}
+use Rattle.answer.specs.declared.command.Kind.the-variants.{Informs, Weighs, Zeroes, Resets, Shows, Sends, Tares, Selects, Unknown}
 use Rattle.answer.specs.declared.answer.Answer.{Answer}
 use Rattle.answer.specs.declared.answer.Answer.the-variants.{Plain}
 use Rattle.answer.specs.declared.answer.Status.{Status}
@@ -20,7 +20,7 @@ use Rattle.model.specs.declared.state.Pending.the-variants.{Weigh, Zero, Tare, 
 use Rattle.model.specs.declared.state.State.{State}
 use Rattle.weighing.specs.declared.weighing.Measured.{Measured}
 use Rattle.model.specs.declared.weighing.Weighing.{Weighing}
-use Rattle.commands.specs.Reactions.{changing, informed, modeAfter, run, runAs, sendingAs, showing, showingWeight, taring, unanswered, weighing, zeroing}
+use Rattle.commands.specs.Reactions.{changing, informed, modeAfter, run, runAs, sendingAs, showing, showingWeight, taring, unanswered, unitTold, weighing, zeroing}
 use Rattle.model.specs.Groups.{reaction, withSending, withWeighing}
 use Rattle.model.specs.Profiles.{resolutionIn, scaleOf}
 use Rattle.waiting.specs.Changes.{withThreshold}
@@ -80,6 +80,9 @@ module _ (p : Profile) (s : State) (c : ℕ) {r : Reaction} where
 
     pub run-taring : k ≡ Tares → r ≡ taring p s c → r ≡ run p s c
     run-taring = run-as
+
+    pub run-telling : k ≡ Selects → r ≡ unitTold s → r ≡ run p s c
+    run-telling = run-as
 
     pub run-unknown : k ≡ Unknown → r ≡ unanswered s → r ≡ run p s c
     run-unknown = run-as

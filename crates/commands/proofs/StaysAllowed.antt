@@ -23,6 +23,7 @@ use Rattle.model.specs.declared.state.Pending.the-variants.{Nothing, Weigh, Zer
 use Rattle.model.specs.declared.state.State.{State}
 use Rattle.model.specs.declared.state.Waiting.{Waiting}
 use Rattle.weight.specs.declared.loads.Load.{Load}
+use Rattle.weight.specs.declared.units.WeightUnit.{WeightUnit}
 use Rattle.model.specs.declared.weighing.Weighing.{Weighing}
 use Rattle.model.specs.Profiles.{textAllowed20, profileAllowed}
 use Rattle.commands.specs.Reactions.{run, changing, modeAfter, sendingAs, weightShown, resetState, textShown, performed, byteReaction, situationOf}
@@ -32,11 +33,11 @@ use Rattle.waiting.specs.Changes.{chosenSending, withThreshold, started, goneOu
 use Rattle.waiting.specs.Waits.{sampledState, settled, sendingOf, settledReaction, begun, sampleReaction, begunBy, settledReactionBy}
 use Rattle.model.specs.States.{isPending, isChange, stateAllowed}
 use Rattle.weighing.proofs.Reach.{between, not-below, net-within}
-use Rattle.weighing.specs.Weighings.{isOutside, netOf, stability, grossOf, withTare, withZero, chosenWeighing, zeroed, tared, zeroedBy, taredBy}
+use Rattle.weighing.specs.Weighings.{isOutside, netOf, stability, grossOf, withTare, withUnit, withZero, chosenWeighing, zeroed, tared, zeroedBy, taredBy}
 use Rattle.model.proofs.ProfileFacts.{allowed-profile}
 use Rattle.model.proofs.StateFacts.{StateTests, allowed-tests, tests-allow}
 use Rattle.line.specs.declared.judge.Verdict.{Verdict}
-use Rattle.line.specs.declared.judge.Verdict.the-variants.{Erroneous, Reset, Busy, Wrong, NoSample, Run, Preset, Show}
+use Rattle.line.specs.declared.judge.Verdict.the-variants.{Erroneous, Reset, Busy, Wrong, NoSample, Run, Preset, Show, Select}
 use Rattle.line.specs.declared.judge.Verdict.the-variants as verdicts
 use Rattle.line.specs.declared.receive.Line.{Line}
 use Rattle.line.specs.Judging.{judgement}
@@ -65,6 +66,9 @@ module _ (p : Profile) (w : Weighing) (old : InRanges p w) where
 
   tare-moved : (n : ℕ) → n ≤ p .capacity → Moved p w (withTare w n)
   tare-moved n h = record { ranges = record { zero = old .zero; tare = le-leb n (p .capacity) h }; sampled = refl }
+
+  unit-moved : (u : WeightUnit) → Moved p w (withUnit w u)
+  unit-moved u = record { ranges = record { zero = old .zero; tare = old .tare }; sampled = refl }
 
   zeroed-by : (over under : Bool) → ltZ (pos (p .zeroing)) (w .load .0) ≡ over → ltZ (w .load .0) (negℤ (pos (p .zeroing))) ≡ under
       → Moved p w (chosenWeighing (over || under) w (withZero w))
@@ -333,6 +337,7 @@ module _ (p : Profile) (least : 1 ≤ p .timeout) (s : State) (h : StateTests p 
       (λ needs. with-weighing p s h (tared p (s .weighing) placeTI .weighing) (tared-moved p (s .weighing) (ranges-of p s h) placeTI))
       (with-weighing p s h (withTare (s .weighing) 0) (tare-moved p (s .weighing) (ranges-of p s h) 0 zero-le))
       (λ e. h)
+      (λ e. h)
 
   reset-allowed : StateTests p (resetState s)
   unfolding resetState
@@ -362,6 +367,7 @@ module _ (p : Profile) (least : 1 ≤ p .timeout) (s : State) (h : StateTests p 
   performed-allowed l (Preset m) t = with-weighing p s h (withTare (s .weighing) (m .0)) (tare-moved p (s .weighing) (ranges-of p s h) (m .0) t)
   performed-allowed l (verdicts.Change n) t = change-allowed (n .0) t
   performed-allowed l (Show n) t = with-display p s h (textShown (s .display) l n) (shown-allowed l n t)
+  performed-allowed l (Select u) t = with-weighing p s h (withUnit (s .weighing) u) (unit-moved p (s .weighing) (ranges-of p s h) u)
 
 -- a verdict leaves the cleared line alone
 module _ (p : Profile) where
@@ -389,6 +395,7 @@ module _ (p : Profile) where
       (λ needs. refl)
       refl
       (λ e. refl)
+      (λ e. refl)
 
   performed-keeps : (s : State) (l : Line) (v : Verdict) → Proper (situationOf p s) l v → performed p s l v .state .line ≡ s .line
   unfolding resetState
@@ -401,6 +408,7 @@ module _ (p : Profile) where
   performed-keeps s l (Preset m) t = refl
   performed-keeps s l (verdicts.Change n) t = changing-keeps s (n .0)
   performed-keeps s l (Show n) t = refl
+  performed-keeps s l (Select u) t = refl
 
 -- ---- the two reactions
 

@@ -6,14 +6,14 @@ use Prim.Native.Nat.{ℕ, _+_, _≤_, _<_}
 use borrow.Author.Tests.{eqb-true, leb-true, leb-false}
 use native.Mathlib.Omega.{arith}
 use lib.Dec.{leb, eqb}
-use Rattle.answer.specs.Commands.{kindOf, mayWait, needsSample, isSI, isSIR, isZI, isD, isDW, isT, isTA, isTAC, isTI, placeS, placeZ, placeZI, placeReset, placeD, placeSR, placeT, placeTA, placeTAC, placeTI, hasText, isI0, isI1}
+use Rattle.answer.specs.Commands.{kindOf, mayWait, needsSample, isSI, isSIR, isZI, isD, isDW, isT, isTA, isTAC, isTI, placeS, placeZ, placeZI, placeReset, placeD, placeM21, placeSR, placeT, placeTA, placeTAC, placeTI, hasText, isI0, isI1}
 use Rattle.answer.specs.declared.answer.Answer.the-variants.{Plain}
 use Rattle.answer.specs.declared.answer.Answer.the-variants as answers
 use Rattle.answer.specs.declared.answer.Status.the-variants.{A, I}
 use Rattle.answer.specs.declared.command.Kind.{Kind}
-use Rattle.answer.specs.declared.command.Kind.the-variants.{Informs, Weighs, Zeroes, Resets, Shows, Sends, Tares, Unknown}
-use Rattle.answer.proofs.Rows.{informing-is, resetting, weighing-is, zeroing-is, showing-is, sending-is, taring-is, is-known, samples-are}
-use Rattle.commands.specs.Reactions.{informed, weighing, zeroing, showingWeight, showing, changing, taring, runAs, run, modeAfter, sendingAs}
+use Rattle.answer.specs.declared.command.Kind.the-variants.{Informs, Weighs, Zeroes, Resets, Shows, Sends, Tares, Selects, Unknown}
+use Rattle.answer.proofs.Rows.{informing-is, resetting, weighing-is, zeroing-is, showing-is, sending-is, taring-is, selecting-is, is-known, samples-are}
+use Rattle.commands.specs.Reactions.{informed, weighing, zeroing, showingWeight, showing, changing, taring, unitTold, runAs, run, modeAfter, sendingAs}
 use Rattle.line.proofs.Proper.{Ruled}
 use Rattle.model.specs.declared.profile.Profile.{Profile}
 use Rattle.model.specs.declared.sending.Mode.{Mode}
@@ -120,7 +120,7 @@ module _ (P : Reaction → Type 0) (p : Profile) (s : State) (c : ℕ) (r : Rule
       (λ ta. tells (eqb-true c placeTA ta))
       (λ ta. absurd (false≢true (rw (t, ta, tac, ti) at (taring-is c (r .known) e)))))))
 
-  -- I0; I1; I2 to I5; S; SI and SIR; Z; ZI; DW; SR alone; T; TI; TAC; TA alone
+  -- I0; I1; I2 to I5; S; SI and SIR; Z; ZI; DW; SR alone; T; TI; TAC; TA alone; M21 alone
   pub run-cases
       : P (reaction s answers.CommandList)
       → P (reaction s answers.Versions)
@@ -135,9 +135,10 @@ module _ (P : Reaction → Type 0) (p : Profile) (s : State) (c : ℕ) (r : Rule
       → (needsSample c ≡ true → P (measuredReaction s (tared p (s .weighing) placeTI)))
       → P (reaction (withWeighing s (withTare (s .weighing) 0)) (Plain (headOf placeTAC A)))
       → (c ≡ placeTA → P (reaction s (tareAnswer (resolutionIn p (s .weighing)) (s .weighing .tare .0))))
+      → (c ≡ placeM21 → P (unitTold s))
       → P (run p s c)
   unfolding run
-  run-cases lists versions texts stable weighs zero zeroes shows changes tare tares clears tells = by-kind (kindOf c) refl
+  run-cases lists versions texts stable weighs zero zeroes shows changes tare tares clears tells units = by-kind (kindOf c) refl
     where
       by-kind : (k : Kind) → kindOf c ≡ k → P (runAs k p s c)
       by-kind Informs e = informing-ways e lists versions texts
@@ -147,6 +148,7 @@ module _ (P : Reaction → Type 0) (p : Profile) (s : State) (c : ℕ) (r : Rule
       by-kind Shows e = showing-ways e shows
       by-kind Sends e = changes (eqb-true c placeSR (sending-is c (r .known) e))
       by-kind Tares e = taring-ways e tare tares clears tells
+      by-kind Selects e = units (eqb-true c placeM21 (selecting-is c (r .known) e))
       by-kind Unknown e = absurd (is-known c (r .known) e)
 
 -- ---- a sample

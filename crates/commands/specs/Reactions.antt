@@ -1,19 +1,20 @@
--- Document 01, "What each command does": what a finished line and a byte make of the state, and the answer. SR is document 02's.
+-- Document 01, "What each command does": what a finished line and a byte make of the state, and the answer. SR and M21 are
+-- document 02's.
 -- Assumes nothing.
 use Prim.Native.Nat.{ℕ}
 use mathlib.Core.Bool.{Bool, true, false, cond, _||_}
 use mathlib.Core.List.{_++_}
 use lib.ListN.{take, drop}
-use Rattle.answer.specs.Commands.{kindOf, mayWait, hasText, isI0, isI1, isSI, isSIR, isSR, isDW, isT, isTA, isTAC, isTI, placeI4, placeS, placeZI, placeD, placeDW, placeTAC, placeTI}
+use Rattle.answer.specs.Commands.{kindOf, mayWait, hasText, isI0, isI1, isSI, isSIR, isSR, isDW, isT, isTA, isTAC, isTI, placeI4, placeM21, placeS, placeZI, placeD, placeDW, placeTAC, placeTI}
 use Rattle.answer.specs.declared.command.Kind.{Kind}
-use Rattle.answer.specs.declared.command.Kind.the-variants.{Informs, Weighs, Zeroes, Resets, Shows, Sends, Tares, Unknown}
+use Rattle.answer.specs.declared.command.Kind.the-variants.{Informs, Weighs, Zeroes, Resets, Shows, Sends, Tares, Selects, Unknown}
 use Rattle.answer.specs.declared.answer.Answer.{Answer}
-use Rattle.answer.specs.declared.answer.Answer.the-variants.{Plain, CommandList, Versions}
+use Rattle.answer.specs.declared.answer.Answer.the-variants.{Plain, CommandList, Versions, HostUnit}
 use Rattle.answer.specs.declared.answer.Answer.the-variants as answers
 use Rattle.answer.specs.declared.answer.Status.the-variants.{A, I, L}
 use Rattle.line.specs.declared.judge.Situation.{Situation}
 use Rattle.line.specs.declared.judge.Verdict.{Verdict}
-use Rattle.line.specs.declared.judge.Verdict.the-variants.{Erroneous, Reset, Busy, Wrong, NoSample, Run, Preset, Change, Show}
+use Rattle.line.specs.declared.judge.Verdict.the-variants.{Erroneous, Reset, Busy, Wrong, NoSample, Run, Preset, Change, Show, Select}
 use Rattle.line.specs.declared.receive.Line.{Line}
 use Rattle.line.specs.Judging.{judgement}
 use Rattle.line.specs.Receiving.{clearedLine, receivedByte}
@@ -31,7 +32,7 @@ use Rattle.model.specs.Groups.{withLine, withWeighing, withSending, withMode, w
 use Rattle.waiting.specs.Changes.{withThreshold}
 use Rattle.waiting.specs.Waits.{measuredReaction, begun}
 use Rattle.answer.specs.Lines.{headOf}
-use Rattle.weighing.specs.Weighings.{stability, weighed, withTare, zeroed, tared, tareAnswer}
+use Rattle.weighing.specs.Weighings.{stability, weighed, withTare, withUnit, zeroed, tared, tareAnswer}
 
 -- ---- a command's own rule, by its kind
 
@@ -88,6 +89,10 @@ taring p s c =
     (reaction (withWeighing s (withTare (s .weighing) 0)) (Plain (headOf placeTAC A)))
     (chosenReaction (isTA c) (reaction s (tareAnswer (resolutionIn p (s .weighing)) (s .weighing .tare .0))) (unanswered s))))
 
+-- M21 alone: the unit in force
+abbrev pub unitTold : State → Reaction
+unitTold s = reaction s (HostUnit (s .weighing .unit))
+
 abbrev pub runAs : Kind → Profile → State → ℕ → Reaction
 runAs Informs p s c = informed s c
 runAs Weighs p s c = weighing p s c
@@ -96,6 +101,7 @@ runAs Resets p s c = unanswered s
 runAs Shows p s c = showing s c
 runAs Sends p s c = changing p s 0
 runAs Tares p s c = taring p s c
+runAs Selects p s c = unitTold s
 runAs Unknown p s c = unanswered s
 
 unfoldable pub run : Profile → State → ℕ → Reaction
@@ -107,7 +113,7 @@ run p s c = runAs (kindOf c) p s c
 abbrev pub identificationOf : ℕ → ℕ
 identificationOf c = cond (isSI c || isSIR c || isSR c) placeS c
 
--- @: waiting command dropped unanswered, repetition and SR ended, tare 0, weight shown; zero and latest sample are kept
+-- @: waiting command dropped unanswered, repetition and SR ended, tare 0, weight shown; zero, latest sample and unit are kept
 unfoldable pub resetState : State → State
 resetState s =
     record {
@@ -134,6 +140,7 @@ performed p s l (Run c) = run p s c
 performed p s l (Preset m) = reaction (withWeighing s (withTare (s .weighing) (m .0))) (tareAnswer (resolutionIn p (s .weighing)) (m .0))
 performed p s l (Change t) = changing p s (t .0)
 performed p s l (Show n) = reaction (withDisplay s (textShown (s .display) l n)) (Plain (headOf placeD A))
+performed p s l (Select u) = reaction (withWeighing s (withUnit (s .weighing) u)) (Plain (headOf placeM21 A))
 
 -- ---- a byte
 

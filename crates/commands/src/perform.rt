@@ -4,7 +4,7 @@ ghost use mathlib.Core.Bool.{true};
 ghost use mathlib.Core.List.{_++_};
 ghost use Prim.Native.Nat.{_≤_};
 ghost use lib.ListN.{length, drop};
-ghost use Rattle.answer.specs.Commands.{placeD};
+ghost use Rattle.answer.specs.Commands.{placeD, placeM21};
 ghost use Rattle.commands.specs.Shown.{showsShort};
 ghost use Rattle.commands.specs.Reactions as meaning;
 ghost use Rattle.model.specs.Groups as groups;
@@ -17,6 +17,7 @@ use crate::run::with_change;
 use answer::Answer;
 use answer::D;
 use answer::I4;
+use answer::M21;
 use answer::S;
 use answer::SI;
 use answer::SIR;
@@ -47,8 +48,10 @@ use waiting::begun;
 use waiting::not_waiting;
 use weighing::tare_answer;
 use weighing::with_tare;
+use weighing::with_unit;
 use weight::NO_TARE;
 use weight::Tare;
+use weight::WeightUnit;
 
 // The name's place; for SI, SIR and SR that of S.
 fn identification_of(command: u8) -> u8
@@ -75,7 +78,7 @@ fn not_understood(state: State, command: u8) -> Reaction
     answered(state, plain(identification_of(command), Status::L))
 }
 
-// @: zero and the latest sample are kept.
+// @: zero, the latest sample and the unit are kept.
 fn reset_state(state: State) -> State
     ensures { λ r. ⌜ r ≡ meaning.resetState state ⌝ }
 {
@@ -145,6 +148,17 @@ fn preset(profile: Profile, state: State, tare: Tare) -> Reaction
     )
 }
 
+// M21 with a code.
+fn select(state: State, unit: WeightUnit) -> Reaction
+    ensures { λ r. ⌜ r ≡ groups.reaction (groups.withWeighing state (weights.withUnit (state .weighing) unit)) (Answer.Plain (lines.headOf placeM21 Status.A)) ⌝ }
+{
+    let weighing = state.weighing;
+    answered(
+        with_weighing(state, with_unit(weighing, unit)),
+        plain(M21, Status::A),
+    )
+}
+
 // `state` has its line cleared; `line` is the finished one.
 fn performed(profile: Profile, state: State, line: Line, verdict: Verdict) -> Reaction
     requires { ⌜ showsShort verdict ≡ true ⌝ }
@@ -165,6 +179,7 @@ fn performed(profile: Profile, state: State, line: Line, verdict: Verdict) -> Re
             Pending::Change,
         ),
         Verdict::Show(len) => show_text(state, line, len),
+        Verdict::Select(unit) => select(state, unit),
     }
 }
 

@@ -186,6 +186,15 @@ fn run_taring(profile: Profile, state: State, command: u8) -> Reaction
     unanswered(state)
 }
 
+// M21 alone.
+fn tell_unit(state: State) -> Reaction
+    ensures { λ r. ⌜ r ≡ meaning.unitTold state ⌝ }
+{
+    let weighing = state.weighing;
+    let unit = weighing.unit;
+    answered(state, Answer::HostUnit(unit))
+}
+
 pub fn run(profile: Profile, state: State, command: u8) -> Reaction
     ensures { λ r. ⌜ r ≡ meaning.run profile state command ⌝ }
 {
@@ -203,6 +212,7 @@ pub fn run(profile: Profile, state: State, command: u8) -> Reaction
             Pending::Change,
         ),
         Kind::Tares => run_taring(profile, state, command),
+        Kind::Selects => tell_unit(state),
         Kind::Unknown => unanswered(state),
     }
 }

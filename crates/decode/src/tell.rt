@@ -10,6 +10,7 @@ use text::ShortText;
 use text::part;
 use text::same_text;
 use weight::LastPlaces;
+use weight::WeightUnit;
 
 fn text(bytes: &[u8]) {
     io::write_all(1, bytes);
@@ -107,6 +108,13 @@ fn listed(last: bool, command: u8) {
     end();
 }
 
+// The unit in force.
+fn unit(measure: WeightUnit) {
+    text(b"unit ");
+    short(text::unit_text(measure));
+    end();
+}
+
 fn other(line: &[u8]) {
     text(b"answer ");
     text(line);
@@ -122,6 +130,7 @@ fn tell_answer(answer: Answer, bytes: &[u8], line: &[u8]) {
         Answer::Listed(last, command) => listed(last, command),
         Answer::CommandList => other(line),
         Answer::Versions => other(line),
+        Answer::HostUnit(measure) => unit(measure),
     }
 }
 

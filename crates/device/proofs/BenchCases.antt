@@ -1,4 +1,4 @@
--- Document 01, "Bench cases": the starred ones, as one table under one statement.
+-- Document 01, "Bench cases": the starred ones, and one load in each unit of document 02, No. 5, as one table under one statement.
 -- Assumes nothing.
 use Prim.Native.Nat.{ℕ}
 use Prim.Native.String.{String}
@@ -19,7 +19,7 @@ use Rattle.text.specs.Field.{fieldOf}
 use Rattle.weight.specs.Printing.{printable, printedNumber}
 use Rattle.weight.specs.Rounding.{allowedResolution, halfUp, roundAway, stepsOf, placesOf}
 use Rattle.weight.specs.declared.units.WeightUnit.{WeightUnit}
-use Rattle.weight.specs.declared.units.WeightUnit.the-variants.{G, Ct, Oz}
+use Rattle.weight.specs.declared.units.WeightUnit.the-variants.{G, Mg, Ct, Oz, Ozt, Gn, Dwt, Kg, Lb}
 
 -- how weights are shown, a stable load in micrograms with zero and tare 0, and the answer to S
 pub record Case : Type 0 where
@@ -47,15 +47,30 @@ cases =
     ∷ case G 4 1 (pos 220_000_001) "S +"
     ∷ case G 4 1 (negsuc 999_999) "S S    -1.0000 g"
     ∷ case G 4 1 (negsuc 1_000_000) "S -"
+    ∷ case Mg 2 1 (pos 14_256_050) "S S   14256.05 mg"
+    ∷ case Ct 2 1 (pos 14_256_050) "S S      71.28 ct"
+    ∷ case Oz 2 1 (pos 14_256_050) "S S       0.50 oz"
+    ∷ case Ozt 2 1 (pos 14_256_050) "S S       0.46 ozt"
+    ∷ case Gn 2 1 (pos 14_256_050) "S S     220.00 GN"
+    ∷ case Dwt 2 1 (pos 14_256_050) "S S       9.17 dwt"
+    ∷ case Kg 2 1 (pos 14_256_050) "S S       0.01 kg"
+    ∷ case Lb 2 1 (pos 14_256_050) "S S       0.03 lb"
     ∷ []
 
--- profile A, in the case's unit, decimals and step
+-- profile A with the case's decimals and step in its unit, which is in force
 abbrev pub profileOf : Case → Profile
 profileOf c = profileWith (record { unit = c .unit; decimals = c .decimals; step = c .step })
 
 abbrev pub weighingOf : Case → Weighing
 weighingOf c =
-    record { zero = record { 0 = pos 0 }; tare = record { 0 = 0 }; sampled = true; load = record { 0 = c .load }; stable = true }
+    record {
+      zero = record { 0 = pos 0 };
+      tare = record { 0 = 0 };
+      unit = c .unit;
+      sampled = true;
+      load = record { 0 = c .load };
+      stable = true;
+    }
 
 -- what the written meaning answers
 unfoldable pub answered : Case → List ℕ

@@ -7,7 +7,7 @@ use mathlib.Core.List.{List}
 use lib.ListN.{length}
 use Rattle.answer.specs.Commands.{placeI4}
 use Rattle.answer.specs.declared.answer.Answer.{Answer}
-use Rattle.answer.specs.declared.answer.Answer.the-variants.{Nothing, Plain, Weight, ErrorLine, Text, Listed, CommandList, Versions}
+use Rattle.answer.specs.declared.answer.Answer.the-variants.{Nothing, Plain, Weight, ErrorLine, Text, Listed, CommandList, Versions, HostUnit}
 use Rattle.answer.specs.Lines.{lineOf}
 use Rattle.emit.specs.Rooms.{fitsRoom, laidIn}
 use Rattle.device.specs.declared.call.Called.{Called}
@@ -32,6 +32,7 @@ textCommand (Text c) = c
 textCommand (Listed last c) = 0
 textCommand CommandList = 0
 textCommand Versions = 0
+textCommand (HostUnit u) = 0
 
 -- the text that goes with an answer
 abbrev pub answerText : Profile → Answer → List ℕ

@@ -25,6 +25,7 @@ fn text_command(answer: Answer) -> u8
         Answer::Listed(_, _) => 0,
         Answer::CommandList => 0,
         Answer::Versions => 0,
+        Answer::HostUnit(_) => 0,
     }
 }
 

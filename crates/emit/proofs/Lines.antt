@@ -9,10 +9,11 @@ use Rattle.text.specs.Ascii.{ascii}
 use Rattle.answer.specs.declared.answer.Head.{Head}
 use Rattle.answer.specs.Commands.{nameOf, levelOf}
 use Rattle.answer.specs.Lines.{lineEnd, quoted, statusText, headText, weightText, listedLine}
+use Rattle.weight.specs.declared.units.WeightUnit.{WeightUnit}
 use Rattle.text.specs.declared.field.Field.{Field}
 use Rattle.weight.specs.Places.{fitsField}
 use Rattle.text.specs.Field.{fieldIf}
-use Rattle.text.specs.UnitTexts.{unitText}
+use Rattle.text.specs.UnitTexts.{unitText, unitCode}
 use Rattle.text.specs.declared.short.ShortText.{ShortText}
 use Rattle.text.specs.Short.{shortOf, textOf}
 use Rattle.text.proofs.Cells.{cells-text}
@@ -41,6 +42,11 @@ pub number-pieces : (n : Number) (f : Field) (u : ShortText) → f ≡ fieldIf (
     → u ≡ shortOf (unitText (n .unit)) → Three (f .cells) (32 ∷ []) (textOf u) (weightText n)
 unfolding weightText
 number-pieces n f u e k = record { whole = rw (cells-text u (unitText (n .unit)) k, e) }
+
+-- M21's answer up to the code, the code, the end
+pub host-unit-pieces : (u : WeightUnit) (c : ShortText) → c ≡ shortOf (unitCode u)
+    → Three (ascii "M21 A 0 ") (textOf c) lineEnd (ascii "M21 A 0 " ++ unitCode u ++ lineEnd)
+host-unit-pieces u c e = record { whole = rw (cells-text c (unitCode u) e) }
 
 -- a name, the grant with the first quote, the text, the last quote with the end
 pub text-pieces : (n t : List ℕ) → Four n (32 ∷ 65 ∷ 32 ∷ 34 ∷ []) t (34 ∷ 13 ∷ 10 ∷ []) (n ++ ascii " A " ++ quoted t ++ lineEnd)

@@ -10,7 +10,7 @@ ghost use Rattle.answer.specs.Lines.{lineEnd, quoted, statusText, headText, wei
 ghost use Rattle.emit.specs.Rooms.{emitted, laidIn};
 ghost use Rattle.text.specs.Ascii.{ascii};
 ghost use Rattle.text.specs.Short.{textOf};
-ghost use Rattle.text.specs.UnitTexts.{unitText};
+ghost use Rattle.text.specs.UnitTexts.{unitText, unitCode};
 use answer::Answer;
 use answer::Error;
 use answer::Head;
@@ -25,6 +25,7 @@ use answer::name_length;
 use answer::name_of;
 use text::ShortText;
 use text::field_of;
+use text::unit_code;
 use text::unit_text;
 use weight::WeightUnit;
 
@@ -48,7 +49,7 @@ fn put(out: &mut [u8], at: usize, piece: &[u8]) -> usize
     at + i
 }
 
-// A name or a unit's text.
+// A name, or a unit's text or code.
 fn put_short(out: &mut [u8], at: usize, short: ShortText) -> usize
     requires { ⌜ short .len ≤ length (short .cells) ⌝ }
     requires { ⌜ at + length (textOf short) ≤ length (now out) ⌝ }
@@ -196,12 +197,32 @@ fn put_list(out: &mut [u8], at: usize) -> usize
     next
 }
 
+// What M21 tells: the unit by its code.
+fn put_host_unit(out: &mut [u8], at: usize, unit: WeightUnit) -> usize
+    requires { ⌜ at + length (ascii "M21 A 0 " ++ unitCode unit ++ lineEnd) ≤ length (now out) ⌝ }
+    ensures { λ r. ⌜ r ≡ at + length (ascii "M21 A 0 " ++ unitCode unit ++ lineEnd) ⌝ }
+    ensures { λ r. ⌜ now (out .exit) ≡ sets (now (out .entry)) at (ascii "M21 A 0 " ++ unitCode unit ++ lineEnd) ⌝ }
+{
+    let code = unit_code(unit);
+    let next = put(out, at, b"M21 A 0 ");
+    let end = put_short(out, next, code);
+    put(out, end, b"\r\n")
+}
+
 fn unit_length(unit: WeightUnit) -> usize
     ensures { λ r. ⌜ r ≡ length (unitText unit) ⌝ }
     ensures { λ r. ⌜ r ≤ 3 ⌝ }
 {
     let text = unit_text(unit);
     text.len
+}
+
+fn code_length(unit: WeightUnit) -> usize
+    ensures { λ r. ⌜ r ≡ length (unitCode unit) ⌝ }
+    ensures { λ r. ⌜ r ≤ 3 ⌝ }
+{
+    let code = unit_code(unit);
+    code.len
 }
 
 // How long the line is.
@@ -220,6 +241,7 @@ fn line_length(answer: Answer, text: &[u8]) -> usize
         Answer::Listed(_, command) => name_length(command) + LISTED_LENGTH,
         Answer::CommandList => LIST_LENGTH,
         Answer::Versions => 24,
+        Answer::HostUnit(unit) => code_length(unit) + 10,
     }
 }
 
@@ -237,6 +259,7 @@ fn put_answer(out: &mut [u8], answer: Answer, text: &[u8]) -> usize
         Answer::Listed(last, command) => put_listed(out, 0, last, command),
         Answer::CommandList => put_list(out, 0),
         Answer::Versions => put(out, 0, b"I1 A \"0\" \"2.30\" \"2.20\"\r\n"),
+        Answer::HostUnit(unit) => put_host_unit(out, 0, unit),
     }
 }
 

@@ -13,16 +13,16 @@ use lib.Signed.{nonNeg}
 use Rattle.answer.specs.Commands.{isS, hasText}
 use Rattle.answer.specs.Lines.{lineOf}
 use Rattle.answer.specs.declared.answer.Answer.{Answer}
-use Rattle.answer.specs.declared.answer.Answer.the-variants.{Nothing, Plain, Weight, ErrorLine, Text, Listed, CommandList, Versions}
+use Rattle.answer.specs.declared.answer.Answer.the-variants.{Nothing, Plain, Weight, ErrorLine, Text, Listed, CommandList, Versions, HostUnit}
 use Rattle.answer.specs.declared.answer.Head.{Head}
 use Rattle.answer.specs.declared.answer.Number.{Number}
-use Rattle.answer.proofs.Lengths.{plain-length, weight-length, error-length, text-length, listed-length, versions-length}
+use Rattle.answer.proofs.Lengths.{plain-length, weight-length, error-length, text-length, listed-length, versions-length, unit-length}
 use Rattle.answer.proofs.Names.{name-short}
 use Rattle.forms.specs.Forms.{weightForm, numberForm, noText, canForm, longestLine}
 use Rattle.forms.proofs.Places.{text-width}
 use Rattle.text.specs.Printable.{isPrintable}
 use Rattle.weight.specs.Places.{fitsField}
-use Rattle.text.proofs.Named.{unit-short}
+use Rattle.text.proofs.Named.{unit-short, code-short}
 use Rattle.weight.proofs.Allowed.{both-left, both-right, either-holds}
 
 -- ---- what a form's test says
@@ -63,3 +63,4 @@ form-length (Text c) t e = omega (arith, text-length c t, text-width c (text-com
 form-length (Listed last c) t e = omega (arith, listed-length last c t, name-short c)
 form-length CommandList t e = let z : _≡_ {A = ℕ} 0 1 = cc in absurd (omega arith)
 form-length Versions t e = omega (arith, versions-length t)
+form-length (HostUnit u) t e = omega (arith, unit-length u t, code-short u)

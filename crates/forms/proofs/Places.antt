@@ -9,7 +9,7 @@ use native.Mathlib.Omega.{arith}
 use borrow.Author.Tests.{eqb-true, leb-true, ltb-true}
 use lib.Dec.{eqb, leb, ltb, lit≤, lit<}
 use lib.ListN.{length}
-use Rattle.answer.specs.Commands.{nameOf, commandCount, isD, isDW, isReset, isS, isSI, isSIR, isSR, isT, isTA, isTAC, isTI, isZ, isZI, placeD, placeDW, placeS, placeT, placeTA, placeTAC, placeTI, placeZ, placeZI, placeI2, placeI5, hasText}
+use Rattle.answer.specs.Commands.{nameOf, commandCount, isD, isDW, isM21, isReset, isS, isSI, isSIR, isSR, isT, isTA, isTAC, isTI, isZ, isZI, placeD, placeDW, placeM21, placeS, placeT, placeTA, placeTAC, placeTI, placeZ, placeZI, placeI2, placeI5, hasText}
 use Rattle.answer.specs.declared.answer.Status.{Status}
 use Rattle.answer.specs.declared.answer.Status.the-variants.{A, B, S, D, I, L, Over, Under}
 use Rattle.forms.specs.Forms.{isIdentification, plainForm, weightForm}
@@ -34,12 +34,21 @@ signed-place c =
     (known c placeT (lit< tt)))
     (known c placeTI (lit< tt))
 
--- Z, TAC, D, DW
-done-place : (c : ℕ) → isZ c || isTAC c || isD c || isDW c ≡ true → c < commandCount
+-- Z, TAC, D, DW, M21
+done-place : (c : ℕ) → isZ c || isTAC c || isD c || isDW c || isM21 c ≡ true → c < commandCount
 done-place c =
-    either (isZ c || isTAC c || isD c) (isDW c)
+    either (isZ c || isTAC c || isD c || isDW c) (isM21 c)
+    (either (isZ c || isTAC c || isD c) (isDW c)
     (either (isZ c || isTAC c) (isD c) (either (isZ c) (isTAC c) (known c placeZ (lit< tt)) (known c placeTAC (lit< tt))) (known c placeD (lit< tt)))
-    (known c placeDW (lit< tt))
+    (known c placeDW (lit< tt)))
+    (known c placeM21 (lit< tt))
+
+-- S, D, TA, M21
+wrong-place : (c : ℕ) → isS c || isD c || isTA c || isM21 c ≡ true → c < commandCount
+wrong-place c =
+    either (isS c || isD c || isTA c) (isM21 c)
+    (either (isS c || isD c) (isTA c) (either (isS c) (isD c) (known c placeS (lit< tt)) (known c placeD (lit< tt))) (known c placeTA (lit< tt)))
+    (known c placeM21 (lit< tt))
 
 pub plain-place : (c : ℕ) (s : Status) → plainForm c s ≡ true → c < commandCount
 plain-place c A e = done-place c e
@@ -47,16 +56,15 @@ plain-place c B e = let z : _≡_ {A = ℕ} 0 1 = cc in absurd (omega arith)
 plain-place c S e = known c placeZI (lit< tt) e
 plain-place c D e = known c placeZI (lit< tt) e
 plain-place c I e = ltb-true c commandCount (both-left (ltb c commandCount) (not (isSI c || isSIR c || isSR c)) (both-left (isIdentification c) (not (isReset c)) e))
-plain-place c L e =
-    either (isS c || isD c) (isTA c) (either (isS c) (isD c) (known c placeS (lit< tt)) (known c placeD (lit< tt))) (known c placeTA (lit< tt)) e
+plain-place c L e = wrong-place c e
 plain-place c Over e = signed-place c e
 plain-place c Under e = signed-place c e
 
--- no weight follows I0 to I5
-heavy : (c k : ℕ) → placeS ≤ k → k < commandCount → eqb c k ≡ true → (placeS ≤ c) × (c < commandCount)
+-- no weight follows I0 to I5, nor M21
+heavy : (c k : ℕ) → placeS ≤ k → k < placeM21 → eqb c k ≡ true → (placeS ≤ c) × (c < placeM21)
 heavy c k l h e = let s = eqb-true c k e in (omega arith, omega arith)
 
-pub weight-place : (c : ℕ) (s : Status) → weightForm c s ≡ true → (placeS ≤ c) × (c < commandCount)
+pub weight-place : (c : ℕ) (s : Status) → weightForm c s ≡ true → (placeS ≤ c) × (c < placeM21)
 weight-place c A e = heavy c placeTA (lit≤ tt) (lit< tt) e
 weight-place c B e = let z : _≡_ {A = ℕ} 0 1 = cc in absurd (omega arith)
 weight-place c S e =

@@ -1,4 +1,5 @@
--- Document 01, "Refusal numbers": the lines that the reader takes and the writer forms. Their bytes are the device's `lineOf`.
+-- Document 01, "Refusal numbers", and document 02, No. 5: the lines that the reader takes and the writer forms. Their bytes are the
+-- device's `lineOf`.
 -- Assumes nothing.
 use Prim.Native.Nat.{ℕ}
 use mathlib.Core.Bool.{Bool, false, not, _&&_, _||_}
@@ -6,9 +7,9 @@ use mathlib.Core.List.{List}
 use lib.Dec.{leb, ltb, eqb}
 use lib.ListN.{length}
 use lib.Signed.{nonNeg}
-use Rattle.answer.specs.Commands.{names, isD, isDW, isReset, isS, isSI, isSIR, isSR, isT, isTA, isTAC, isTI, isZ, isZI, placeI3, hasText}
+use Rattle.answer.specs.Commands.{names, isD, isDW, isM21, isReset, isS, isSI, isSIR, isSR, isT, isTA, isTAC, isTI, isZ, isZI, placeI3, hasText}
 use Rattle.answer.specs.declared.answer.Answer.{Answer}
-use Rattle.answer.specs.declared.answer.Answer.the-variants.{Nothing, Plain, Weight, ErrorLine, Text, Listed, CommandList, Versions}
+use Rattle.answer.specs.declared.answer.Answer.the-variants.{Nothing, Plain, Weight, ErrorLine, Text, Listed, CommandList, Versions, HostUnit}
 use Rattle.answer.specs.declared.answer.Number.{Number}
 use Rattle.answer.specs.declared.answer.Status.{Status}
 use Rattle.answer.specs.declared.answer.Status.the-variants.{A, B, S, D, I, L, Over, Under}
@@ -21,14 +22,14 @@ isIdentification c = ltb c (length names) && not (isSI c || isSIR c || isSR c)
 
 -- ---- an identification and a status alone
 
--- A for Z, TAC, D, DW; S or D for ZI; + and - for S, Z, ZI, T, TI; L for S, D, TA; I for every identification but @
+-- A for Z, TAC, D, DW, M21; S or D for ZI; + and - for S, Z, ZI, T, TI; L for S, D, TA, M21; I for every identification but @
 abbrev pub plainForm : ℕ → Status → Bool
-plainForm c A = isZ c || isTAC c || isD c || isDW c
+plainForm c A = isZ c || isTAC c || isD c || isDW c || isM21 c
 plainForm c B = false
 plainForm c S = isZI c
 plainForm c D = isZI c
 plainForm c I = isIdentification c && not (isReset c)
-plainForm c L = isS c || isD c || isTA c
+plainForm c L = isS c || isD c || isTA c || isM21 c
 plainForm c Over = isS c || isZ c || isZI c || isT c || isTI c
 plainForm c Under = isS c || isZ c || isZI c || isT c || isTI c
 
@@ -69,6 +70,7 @@ canForm (Text c) t = textForm c t
 canForm (Listed last c) t = ltb c (length names) && noText t
 canForm CommandList t = false
 canForm Versions t = noText t
+canForm (HostUnit u) t = noText t
 
 -- the longest of these lines: I2 with a text of 40 bytes
 abbrev pub longestLine : ℕ

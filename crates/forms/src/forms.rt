@@ -8,6 +8,7 @@ use answer::D;
 use answer::DW;
 use answer::Head;
 use answer::I3;
+use answer::M21;
 use answer::NONE;
 use answer::Number;
 use answer::RESET;
@@ -45,14 +46,18 @@ pub fn plain_form(head: Head) -> bool
     let command = head.identification;
     let status = head.status;
     match status {
-        Status::A => (command == Z) | (command == TAC) | (command == D) | (command == DW),
+        Status::A => (command == Z)
+            | (command == TAC)
+            | (command == D)
+            | (command == DW)
+            | (command == M21),
         Status::B => false,
         Status::S => command == ZI,
         Status::D => command == ZI,
         Status::I => (command < NONE)
             & !((command == SI) | (command == SIR) | (command == SR))
             & !(command == RESET),
-        Status::L => (command == S) | (command == D) | (command == TA),
+        Status::L => (command == S) | (command == D) | (command == TA) | (command == M21),
         Status::Over => has_limits(command),
         Status::Under => has_limits(command),
     }
@@ -111,5 +116,6 @@ pub fn can_form(answer: Answer, text: &[u8]) -> bool
         Answer::Listed(_, command) => (command < NONE) & alone,
         Answer::CommandList => false,
         Answer::Versions => alone,
+        Answer::HostUnit(_) => alone,
     }
 }

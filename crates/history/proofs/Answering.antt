@@ -7,7 +7,7 @@ use mathlib.Core.Bool.{Bool, true, false, not, _||_, and-false, or-true}
 use mathlib.Core.List.{List}
 use lib.IntN.{pos, negℤ, natAbs}
 use lib.Signed.{ltZ}
-use Rattle.answer.specs.Commands.{placeS, placeTAC}
+use Rattle.answer.specs.Commands.{placeM21, placeS, placeTAC}
 use Rattle.answer.specs.declared.answer.Answer.the-variants.{Plain, Weight}
 use Rattle.answer.specs.declared.answer.Status.{Status}
 use Rattle.answer.specs.declared.answer.Status.the-variants.{A}
@@ -16,26 +16,27 @@ use Rattle.model.specs.declared.weighing.Weighing.{Weighing}
 use Rattle.weighing.proofs.InForce.{resolution-tared}
 use Rattle.weighing.proofs.Reach.{between}
 use Rattle.answer.specs.Lines.{headOf}
-use Rattle.weighing.specs.Weighings.{stability, grossOf, netOf, numberIn, inLimits, chosenWeighing, weighed, zeroed, tared, withZero, withTare, tareAnswer, zeroedBy, weighedBy, taredBy}
+use Rattle.weighing.specs.Weighings.{stability, grossOf, netOf, numberIn, inLimits, chosenWeighing, weighed, zeroed, tared, withZero, withTare, withUnit, tareAnswer, zeroedBy, weighedBy, taredBy}
 use Rattle.device.specs.Calls.{answerBytes}
 use Rattle.model.specs.Profiles.{profileAllowed, resolutionIn}
 use Rattle.text.specs.Ascii.{ascii, sameText}
 use Rattle.text.specs.Field.{fieldOf}
 use Rattle.text.specs.Reading.{isDecimal}
 use Rattle.weight.specs.declared.rounding.Resolution.{Resolution}
+use Rattle.weight.specs.declared.units.WeightUnit.{WeightUnit}
 use Rattle.weight.specs.Rounding.{exactFemtograms, halfUp, placesOf, Near}
 use Rattle.weight.specs.Printing.{printable}
 use Rattle.model.proofs.InForce.{allowed-in-force}
 use Rattle.weight.proofs.HalfStep.{rounded-exact}
 use Rattle.text.proofs.Named.{same-self}
 use Rattle.weight.proofs.Nearness.{near-refl}
-use Rattle.history.specs.Tally.{Tally, Input, inForce, taken, ends, endedText, typedText, typedTare, tenOf, tellsTare, grantsTyped, afterReset, tallied, holds}
+use Rattle.history.specs.Tally.{Tally, Input, inForce, taken, ends, ended, endedText, isUnitLine, unitSet, typedText, typedTare, tenOf, tellsTare, grantsTyped, afterReset, tallied, holds}
 use Rattle.history.specs.TypedTares.{typedField, showsTyped}
-use Rattle.history.proofs.AnswerKinds.{Denied, Silent, Zeroes, Tares, Weighs, over-denied, under-denied, weighed-weighs, cleared-clears, told-tells}
+use Rattle.history.proofs.AnswerKinds.{Denied, Silent, Zeroes, Tares, Weighs, over-denied, under-denied, weighed-weighs, cleared-clears, selected-sets, told-tells}
 use Rattle.history.proofs.DueWeights.{net-printable, gross-printable, tare-printable}
 use Rattle.history.proofs.Following.{Follows, is-loaded, latest-is, gross-is, net-near, same-in-force, tare-near}
 use Rattle.history.proofs.InForce.{in-force-taken}
-use Rattle.history.proofs.Tallying.{after-denied, after-zeroes, after-tares, after-clears, after-typed, after-told, after-weighs, silent-holds, denied-holds, zeroes-holds, clears-holds, weighs-holds, tares-holds, told-holds, typed-holds}
+use Rattle.history.proofs.Tallying.{after-denied, after-zeroes, after-tares, after-clears, after-sets, after-typed, after-told, after-weighs, silent-holds, denied-holds, zeroes-holds, clears-holds, sets-holds, weighs-holds, tares-holds, told-holds, typed-holds}
 use Rattle.history.proofs.SentAnswers.{in-limits}
 use Rattle.history.proofs.WeightLines.{Shows, weighed-shows, told-shows}
 
@@ -97,7 +98,7 @@ module _ (p : Profile) (t : Tally) (i : Input) (w : Weighing) (not-reset : after
         shown = untold-shown p t i l (k .told-is);
         follows =
             rw (after-zeroes p t i l k, not-reset)
-            (record { latest = f .latest; zero = latest-is w (taken t i) f sampled; tare = rw zero-exact (near-refl 0 (pos 0)); rounded = zero-rounded });
+            (record { latest = f .latest; zero = latest-is w (taken t i) f sampled; tare = rw zero-exact (near-refl 0 (pos 0)); rounded = zero-rounded; unit = f .unit });
       }
 
   -- by the two tests of Z
@@ -128,7 +129,20 @@ module _ (p : Profile) (t : Tally) (i : Input) (w : Weighing) (not-reset : after
         shown = untold-shown p t i _ (cleared-clears p .told-is);
         follows =
             rw (after-clears p t i _ (cleared-clears p), not-reset)
-            (record { latest = f .latest; zero = f .zero; tare = rw zero-exact (near-refl 0 (pos 0)); rounded = zero-rounded });
+            (record { latest = f .latest; zero = f .zero; tare = rw zero-exact (near-refl 0 (pos 0)); rounded = zero-rounded; unit = f .unit });
+      }
+
+  -- ---- M21 with a code
+
+  pub answered-selected : (u : WeightUnit) → ends t i ≡ true → isUnitLine (ended t i) ≡ true → unitSet (endedText t i) ≡ u
+      → Answered p t i (withUnit w u) (answerBytes p (Plain (headOf placeM21 A)))
+  answered-selected u end line set =
+      record {
+        accepted = sets-holds p t i _ (selected-sets p) end line;
+        shown = untold-shown p t i _ (selected-sets p .told-is);
+        follows =
+            rw (after-sets p t i _ (selected-sets p) line, not-reset)
+            (record { latest = f .latest; zero = f .zero; tare = f .tare; rounded = f .rounded; unit = set });
       }
 
   -- ---- weights
@@ -179,6 +193,7 @@ module _ (p : Profile) (t : Tally) (i : Input) (w : Weighing) (not-reset : after
             zero = f .zero;
             tare = rw (natural, gross-is w (taken t i) f sampled) (near-refl 0 (exactFemtograms (grossOf w)));
             rounded = rw (gross-is w (taken t i) f sampled) (sym (rounded-exact (grossOf w)));
+            unit = f .unit;
           })
 
       tare-granted : Shows (resolutionIn p w) (grossOf w) l → Answered p t i (withTare w (natAbs (grossOf w))) l
@@ -260,7 +275,7 @@ module _ (p : Profile) (t : Tally) (i : Input) (w : Weighing) (not-reset : after
         let s : Shows (resolutionIn p w) (pos m) l = told-shows p (resolutionIn p w) (pos m) (tare-printable p allowed w m range) in
         let before : resolutionIn p w ≡ inForce p t = same-in-force p w (taken t i) f ∙ in-force-taken p t i in
         let g : Follows (withTare w m) (tallied p t i l) =
-        rw (after-typed p t i l k other, not-reset, ← before) (record { latest = f .latest; zero = f .zero; tare = off; rounded = rounded }) in
+        rw (after-typed p t i l k other, not-reset, ← before) (record { latest = f .latest; zero = f .zero; tare = off; rounded = rounded; unit = f .unit }) in
         record {
           accepted =
               typed-holds p t i l (resolutionIn p w) (sym (resolution-tared p w m) ∙ same-in-force p (withTare w m) (tallied p t i l) g) (pos m)

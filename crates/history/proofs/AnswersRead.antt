@@ -11,7 +11,7 @@ use lib.IntN.{ℤ, pos, negsuc, negℤ}
 use lib.ListN.{length}
 use lib.Signed.{ltZ, nonNeg}
 use Rattle.answer.proofs.Rows.{parameters-are}
-use Rattle.answer.specs.Commands.{commandCount, isD, isSI, isSIR, isSR, isTA, placeD, placeDW, placeReset, placeS, placeSR, placeT, placeTA, placeTAC, placeTI, placeZ, placeZI, placeI3, placeI4, placeI5, hasText, placeI2}
+use Rattle.answer.specs.Commands.{commandCount, isD, isSI, isSIR, isM21, isSR, isTA, placeD, placeDW, placeM21, placeReset, placeS, placeSR, placeT, placeTA, placeTAC, placeTI, placeZ, placeZI, placeI3, placeI4, placeI5, hasText, placeI2}
 use Rattle.answer.specs.declared.answer.Answer.the-variants.{Plain, Weight}
 use Rattle.answer.specs.declared.answer.Answer.the-variants as answers
 use Rattle.answer.specs.declared.answer.Status.{Status}
@@ -41,12 +41,12 @@ use Rattle.weighing.specs.Weighings.{stability, grossOf, netOf, numberIn, weigh
 use Rattle.model.proofs.ProfileFacts.{AllowedProfile, allowed-profile, text-short}
 use Rattle.history.proofs.AnswerKinds.{Tests, weighed-weighs, tared-tares, tared-now-tares, told-tells}
 use Rattle.history.proofs.DueWeights.{net-printable, gross-printable, tare-printable}
-use Rattle.history.proofs.HostReads.{ReadByHost, nothing-read, list-read, plain-read, error-read, versions-read, text-read, weight-read}
+use Rattle.history.proofs.HostReads.{ReadByHost, nothing-read, list-read, plain-read, error-read, versions-read, text-read, unit-read, weight-read}
 use Rattle.history.proofs.SentAnswers.{in-limits}
 use Rattle.history.proofs.WeightLines.{weighed-shows, tared-shows, tared-now-shows, told-shows}
 use Rattle.history.specs.Tally.{isWeightAnswer, tellsNet, grantsTare}
 use Rattle.line.specs.declared.judge.Verdict.{Verdict}
-use Rattle.line.specs.declared.judge.Verdict.the-variants.{Erroneous, Reset, Busy, Wrong, NoSample, Run, Preset, Show}
+use Rattle.line.specs.declared.judge.Verdict.the-variants.{Erroneous, Reset, Busy, Wrong, NoSample, Run, Preset, Show, Select}
 use Rattle.line.specs.declared.judge.Verdict.the-variants as verdicts
 use Rattle.line.specs.declared.receive.Line.{Line}
 use Rattle.text.specs.Printable.{isPrintable}
@@ -105,15 +105,15 @@ natural-printed r (pos m) e = refl
 natural-printed r (negsuc m) e = absurd (false≢true e)
 
 -- the tally takes for weights: S S, S D
-net-weight : {zero tare clear told limit : Bool} (l : List ℕ) → Tests zero tare clear told true limit l → isWeightAnswer l ≡ true
+net-weight : {zero tare clear told limit unit : Bool} (l : List ℕ) → Tests zero tare clear told true limit unit l → isWeightAnswer l ≡ true
 net-weight l k = rw (k .net-is)
 
 -- T S, TI S, TI D
-tare-weight : {zero clear told net limit : Bool} (l : List ℕ) → Tests zero true clear told net limit l → isWeightAnswer l ≡ true
+tare-weight : {zero clear told net limit unit : Bool} (l : List ℕ) → Tests zero true clear told net limit unit l → isWeightAnswer l ≡ true
 tare-weight l k = rw (k .tare-is, or-true (tellsNet l))
 
 -- TA A
-told-weight : {zero tare clear net limit : Bool} (l : List ℕ) → Tests zero tare clear true net limit l → isWeightAnswer l ≡ true
+told-weight : {zero tare clear net limit unit : Bool} (l : List ℕ) → Tests zero tare clear true net limit unit l → isWeightAnswer l ≡ true
 told-weight l k = rw (k .told-is, or-true (tellsNet l || grantsTare l))
 
 module _ (p : Profile) (r : Resolution) where
@@ -238,6 +238,7 @@ module _ (p : Profile) (allowed : profileAllowed p ≡ true) (s : State) (range 
       (tared-read p allowed (s .weighing) range placeTI refl refl (tare-form p (resolutionIn p (s .weighing)) (s .weighing .stable) (grossOf (s .weighing)))))
       (plain-read p _ placeTAC A refl)
       (λ is. told-read p allowed (s .weighing) (s .weighing .tare .0) range)
+      (λ is. unit-read p (s .weighing))
 
 -- ---- a finished line
 
@@ -252,6 +253,7 @@ Named p (Run c) = Ruled c
 Named p (Preset m) = m .0 ≤ p .capacity
 Named p (verdicts.Change t) = Unit
 Named p (Show n) = Unit
+Named p (Select u) = Unit
 
 -- every name but @ has an answer with I, by its identification
 identified-by : (now : Bool) (c : ℕ) → (isSI c || isSIR c || isSR c) ≡ now → c < commandCount → (c ≡ placeReset → ⊥) → plainForm (cond now placeS c) I ≡ true
@@ -263,14 +265,16 @@ identified : (c : ℕ) → c < commandCount → (c ≡ placeReset → ⊥) → p
 identified c known other = identified-by (isSI c || isSIR c || isSR c) c refl known other
 
 -- a name that takes parameters has an answer with L
-wrong-by : (d sr ta : Bool) (c : ℕ) → isD c ≡ d → isSR c ≡ sr → isTA c ≡ ta → (d || sr || ta) ≡ true → plainForm (identificationOf c) L ≡ true
-wrong-by true sr ta c d s t e = rw (eqb-true c placeD d)
-wrong-by false true ta c d s t e = rw (eqb-true c placeSR s)
-wrong-by false false true c d s t e = rw (eqb-true c placeTA t)
-wrong-by false false false c d s t e = absurd (false≢true e)
+wrong-by : (d sr ta m : Bool) (c : ℕ) → isD c ≡ d → isSR c ≡ sr → isTA c ≡ ta → isM21 c ≡ m → (d || sr || ta || m) ≡ true
+    → plainForm (identificationOf c) L ≡ true
+wrong-by true sr ta m c d s t u e = rw (eqb-true c placeD d)
+wrong-by false true ta m c d s t u e = rw (eqb-true c placeSR s)
+wrong-by false false true m c d s t u e = rw (eqb-true c placeTA t)
+wrong-by false false false true c d s t u e = rw (eqb-true c placeM21 u)
+wrong-by false false false false c d s t u e = absurd (false≢true e)
 
-wrong-form : (c : ℕ) → (isD c || isSR c || isTA c) ≡ true → plainForm (identificationOf c) L ≡ true
-wrong-form c = wrong-by (isD c) (isSR c) (isTA c) c refl refl refl
+wrong-form : (c : ℕ) → (isD c || isSR c || isTA c || isM21 c) ≡ true → plainForm (identificationOf c) L ≡ true
+wrong-form c = wrong-by (isD c) (isSR c) (isTA c) (isM21 c) c refl refl refl refl
 
 -- the verdict on a line names a command that the reader knows
 verdict-named
@@ -291,6 +295,7 @@ verdict-named p s f l held (Preset m) h =
     verdict-proper (situationOf p s) f l held (Preset m) h
 verdict-named p s f l held (verdicts.Change t) h = tt
 verdict-named p s f l held (Show n) h = tt
+verdict-named p s f l held (Select u) h = tt
 
 module _ (p : Profile) (allowed : profileAllowed p ≡ true) (s : State) (range : s .weighing .tare .0 ≤ p .capacity) where
   -- what each verdict answers
@@ -304,6 +309,7 @@ module _ (p : Profile) (allowed : profileAllowed p ≡ true) (s : State) (range 
   performed-read l (Preset m) named = rw (resolution-tared p (s .weighing) (m .0)) (told-read p allowed (s .weighing) (m .0) named)
   performed-read l (verdicts.Change t) named = change-read p allowed s range (t .0)
   performed-read l (Show n) named = plain-read p _ placeD A refl
+  performed-read l (Select u) named = plain-read p _ placeM21 A refl
 
 -- ---- a byte
 

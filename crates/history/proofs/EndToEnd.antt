@@ -19,7 +19,7 @@ use Rattle.commands.specs.Reactions.{byteReaction}
 use Rattle.waiting.specs.Waits.{sampleReaction}
 use Rattle.history.specs.Claim.{OverCalls}
 use Rattle.history.specs.EndToEnd.{piecesOf, piecesHold, hostAccepts, EndToEnd}
-use Rattle.history.specs.Tally.{Input, Tally, startTally, inForce, byteIs, sampleIs, taken, tallied, loadHolds, typedHolds, weightHolds, holds, afterEvent, eventHolds}
+use Rattle.history.specs.Tally.{Input, Tally, startTally, inForce, byteIs, sampleIs, taken, tallied, loadHolds, typedHolds, unitHolds, weightHolds, holds, afterEvent, eventHolds}
 use Rattle.history.proofs.Along.{Followed, Step, over-calls}
 use Rattle.history.proofs.AnswerKinds.{text-silent}
 use Rattle.history.proofs.AnswersRead.{serial-read, byte-read, sample-read}
@@ -37,7 +37,7 @@ use Rattle.weight.proofs.Allowed.{both-right}
 weight-taken : (p : Profile) (t : Tally) (i : Input) (l : List ℕ) → eventHolds p t (record { input = i; refusal = 0; answer = l }) ≡ true
     → weightHolds (inForce p (tallied p t i l)) (tallied p t i l) l ≡ true
 unfolding eventHolds holds
-weight-taken p t i l h = both-right (loadHolds (taken t i) l && typedHolds t i l) (weightHolds (inForce p (tallied p t i l)) (tallied p t i l) l) h
+weight-taken p t i l h = both-right (loadHolds (taken t i) l && typedHolds t i l && unitHolds t i l) (weightHolds (inForce p (tallied p t i l)) (tallied p t i l) l) h
 
 -- the resolution in force after it is the tally's
 force-after : (p : Profile) (s : State) (t : Tally) (i : Input) (l : List ℕ) → FollowsState p s (afterEvent p t (record { input = i; refusal = 0; answer = l }))

@@ -1,6 +1,5 @@
--- The tally follows a weighing: the same latest load and zero, and the same tare up to half a microgram if it is typed, rounded to the
--- microgram then. One law
--- for each kind of answer, used both where a line ends and where a sample ends a wait.
+-- The tally follows a weighing: the same latest load, zero and unit, and the same tare up to half a microgram if it is typed, rounded to
+-- the microgram then. One law for each kind of answer, used both where a line ends and where a sample ends a wait.
 -- Assumes nothing.
 use Prim.Native.Nat.{_+_, _≤_}
 use native.Mathlib.Omega.{arith}
@@ -27,11 +26,12 @@ pub record Follows (w : Weighing) (t : Tally) : Type 0 where
   pub zero : t .zero ≡ w .zero .0
   pub tare : Near (cond (t .typed) 1_000_000_000 0) (exactFemtograms (pos (w .tare .0))) (t .tare)
   pub rounded : w .tare .0 ≡ roundedTare t
+  pub unit : t .unit ≡ w .unit
 
 -- the module's resolution is the tally's
 pub same-in-force : (p : Profile) (w : Weighing) (t : Tally) → Follows w t → resolutionIn p w ≡ inForce p t
 unfolding resolutionIn inForce
-same-in-force p w t f = refl
+same-in-force p w t f = rw (f .unit)
 
 module _ (w : Weighing) (t : Tally) (f : Follows w t) (sampled : w .sampled ≡ true) where
   pub is-loaded : isLoaded t ≡ true

@@ -12,11 +12,13 @@ use lib.Signed.{nonNeg}
 use Rattle.answer.specs.Commands.{commandCount, isS}
 use Rattle.answer.specs.Lines.{listedLine, listedFrom, lineOf, headOf}
 use Rattle.answer.specs.declared.answer.Answer.{Answer}
-use Rattle.answer.specs.declared.answer.Answer.the-variants.{Nothing, Plain, Weight, ErrorLine, Text, Listed, CommandList, Versions}
+use Rattle.answer.specs.declared.answer.Answer.the-variants.{Nothing, Plain, Weight, ErrorLine, Text, Listed, CommandList, Versions, HostUnit}
 use Rattle.answer.specs.declared.answer.Error.{Error}
 use Rattle.answer.specs.declared.answer.Status.{Status}
 use Rattle.forms.specs.Forms.{plainForm, weightForm, canForm}
 use Rattle.model.specs.declared.profile.Profile.{Profile}
+use Rattle.model.specs.declared.weighing.Weighing.{Weighing}
+use Rattle.model.specs.Profiles.{resolutionIn}
 use Rattle.device.specs.Calls.{answerText, answerBytes}
 use Rattle.weighing.specs.Weighings.{numberIn}
 use Rattle.history.specs.EndToEnd.{piecesAfter, piecesOf, valueAllowance, valueHolds, piecesHold}
@@ -107,6 +109,11 @@ versions-read p r = formed-read p r Versions refl (λ t holds. refl)
 -- I2 to I5
 pub text-read : (p : Profile) (r : Resolution) (c : ℕ) → canForm (Text c) (answerText p (Text c)) ≡ true → ReadByHost p r (Text c)
 text-read p r c form = formed-read p r (Text c) form (λ t holds. refl)
+
+-- M21: the unit in force
+pub unit-read : (p : Profile) (w : Weighing) → ReadByHost p (resolutionIn p w) (HostUnit (w .unit))
+unfolding resolutionIn
+unit-read p w = formed-read p (resolutionIn p w) (HostUnit (w .unit)) refl (λ t holds. same-self (unitText (w .unit)))
 
 -- ---- weights
 

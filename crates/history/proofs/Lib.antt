@@ -8,6 +8,7 @@ mod DueWeights
 mod EachCall
 pub mod EndToEnd
 mod Following
+pub mod Grams
 mod HostReads
 mod InForce
 pub mod OnChange

@@ -22,7 +22,7 @@ use Rattle.device.specs.Calls.{answerBytes}
 use Rattle.model.specs.States.{isPending}
 use Rattle.weighing.specs.Weighings.{stability}
 use Rattle.line.specs.declared.judge.Verdict.{Verdict}
-use Rattle.line.specs.declared.judge.Verdict.the-variants.{Erroneous, Reset, Busy, Wrong, NoSample, Run, Preset, Show}
+use Rattle.line.specs.declared.judge.Verdict.the-variants.{Erroneous, Reset, Busy, Wrong, NoSample, Run, Preset, Show, Select}
 use Rattle.line.specs.declared.judge.Verdict.the-variants as verdicts
 use Rattle.line.specs.declared.receive.Line.{Line}
 use Rattle.line.proofs.Proper.{Ruled, RuledBy}
@@ -126,6 +126,7 @@ module _ (p : Profile) (s : State) (c : ℕ) where
       (λ needs. answered refl (tared-sent p (s .weighing) placeTI) refl refl)
       (answered refl refl refl refl)
       (λ is. answered refl refl refl refl)
+      (λ is. answered refl refl refl refl)
 
 -- SR with a parameter
 change-kind : (p : Profile) (s : State) (t : Threshold) → Performed s (verdicts.Change t) (changing p s (t .0))
@@ -146,3 +147,4 @@ performed-kind p s l (Run c) r = run-kind p s c r
 performed-kind p s l (Preset m) r = answered refl refl refl refl
 performed-kind p s l (verdicts.Change t) r = change-kind p s t
 performed-kind p s l (Show n) r = answered refl refl refl refl
+performed-kind p s l (Select u) r = answered refl refl refl refl

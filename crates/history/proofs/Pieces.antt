@@ -12,7 +12,7 @@ use lib.ListN.{length, replicate}
 use Rattle.answer.specs.Commands.{names, nameOf, levelOf, hasText}
 use Rattle.answer.specs.Lines.{lineEnd, quoted, statusText, headText, weightText, errorText, listedLine, lineOf}
 use Rattle.answer.specs.declared.answer.Answer.{Answer}
-use Rattle.answer.specs.declared.answer.Answer.the-variants.{Nothing, Plain, Weight, ErrorLine, Text, Listed, CommandList, Versions}
+use Rattle.answer.specs.declared.answer.Answer.the-variants.{Nothing, Plain, Weight, ErrorLine, Text, Listed, CommandList, Versions, HostUnit}
 use Rattle.answer.specs.declared.answer.Error.{Error}
 use Rattle.answer.specs.declared.answer.Error.the-variants.{Syntax, Transmission, Logical}
 use Rattle.answer.specs.declared.answer.Head.{Head}
@@ -27,9 +27,9 @@ use Rattle.weight.specs.Characters.{digit, space}
 use Rattle.text.specs.Ascii.{ascii}
 use Rattle.weight.specs.Places.{lastDigits, digitsIn, digitsOf, decimalOf, numberText, widthOf, fitsField}
 use Rattle.text.specs.Field.{fieldOf, blank}
-use Rattle.text.specs.UnitTexts.{unitText}
+use Rattle.text.specs.UnitTexts.{unitText, unitCode}
 use Rattle.weight.specs.declared.units.WeightUnit.{WeightUnit}
-use Rattle.weight.specs.declared.units.WeightUnit.the-variants.{G, Mg, Ct, Oz, Ozt, Gn, Dwt}
+use Rattle.weight.specs.declared.units.WeightUnit.the-variants.{G, Mg, Ct, Oz, Ozt, Gn, Dwt, Kg, Lb}
 use Rattle.weight.proofs.Allowed.{both-hold, both-left, both-right}
 
 -- ---- bytes that end no line
@@ -139,7 +139,7 @@ unfolding fieldOf
 cells-unbroken true d n = joined (replicate (10 - widthOf d n) space) (numberText d n) (spaces-unbroken (10 - widthOf d n)) (number-unbroken d n)
 cells-unbroken false d n = refl
 
--- units
+-- units, and their codes
 unit-unbroken : (u : WeightUnit) → unbroken (unitText u) ≡ true
 unit-unbroken G = refl
 unit-unbroken Mg = refl
@@ -148,6 +148,19 @@ unit-unbroken Oz = refl
 unit-unbroken Ozt = refl
 unit-unbroken Gn = refl
 unit-unbroken Dwt = refl
+unit-unbroken Kg = refl
+unit-unbroken Lb = refl
+
+code-unbroken : (u : WeightUnit) → unbroken (unitCode u) ≡ true
+code-unbroken G = refl
+code-unbroken Mg = refl
+code-unbroken Ct = refl
+code-unbroken Oz = refl
+code-unbroken Ozt = refl
+code-unbroken Gn = refl
+code-unbroken Dwt = refl
+code-unbroken Kg = refl
+code-unbroken Lb = refl
 
 -- ten characters, space, unit
 weight-unbroken : (n : Number) → unbroken (weightText n) ≡ true
@@ -229,3 +242,4 @@ formed-piece (Text c) t e =
 formed-piece (Listed last c) t e = one-piece (listedBody last c) (listed-unbroken last c)
 formed-piece CommandList t e = absurd (false≢true e)
 formed-piece Versions t e = one-piece (ascii "I1 A \"0\" \"2.30\" \"2.20\"") refl
+formed-piece (HostUnit u) t e = one-piece (ascii "M21 A 0 " ++ unitCode u) (joined (ascii "M21 A 0 ") (unitCode u) refl (code-unbroken u))

@@ -28,7 +28,7 @@ use Rattle.waiting.specs.Changes.{withThreshold}
 use Rattle.waiting.specs.Waits.{settled, settledReaction, begun, placeOfPending, sampledState, sampleReaction, begunBy, settledReactionBy}
 use Rattle.weighing.specs.Weighings.{stability, grossOf, numberIn, weighed, withSample}
 use Rattle.line.specs.declared.judge.Verdict.{Verdict}
-use Rattle.line.specs.declared.judge.Verdict.the-variants.{Erroneous, Reset, Busy, Wrong, NoSample, Run, Preset, Show}
+use Rattle.line.specs.declared.judge.Verdict.the-variants.{Erroneous, Reset, Busy, Wrong, NoSample, Run, Preset, Show, Select}
 use Rattle.line.specs.declared.judge.Verdict.the-variants as verdicts
 use Rattle.line.specs.declared.receive.Line.{Line}
 use Rattle.line.specs.Unbounded.{Marked, endsUnbounded, finishedLine}
@@ -39,8 +39,8 @@ use Rattle.weight.specs.Printing.{printable}
 use Rattle.weight.proofs.Allowed.{both-right}
 use Rattle.weight.proofs.Nearness.{near-refl}
 use Rattle.history.specs.Tally.{Tally, Input, byteIs, sampleIs, taken, ends, endedText, isResetLine, afterReset, withTareOf}
-use Rattle.history.proofs.AnswerKinds.{Silent, Tares, nothing-silent, error-silent, list-silent, versions-silent, shown-silent, weight-shown-silent, unready-silent, wrong-silent, text-silent, zeroed-zeroes, zeroed-now-zeroes, tared-tares, tared-now-tares}
-use Rattle.history.proofs.Answering.{Answered, answered-silent, answered-quietly, answered-zeroed, answered-cleared, answered-weighed, answered-tared, answered-told, answered-typed, zero-exact, zero-rounded}
+use Rattle.history.proofs.AnswerKinds.{Silent, Tares, nothing-silent, error-silent, list-silent, versions-silent, shown-silent, weight-shown-silent, unit-silent, unready-silent, wrong-silent, text-silent, zeroed-zeroes, zeroed-now-zeroes, tared-tares, tared-now-tares}
+use Rattle.history.proofs.Answering.{Answered, answered-silent, answered-quietly, answered-zeroed, answered-cleared, answered-selected, answered-weighed, answered-tared, answered-told, answered-typed, zero-exact, zero-rounded}
 use Rattle.history.proofs.Following.{Follows}
 use Rattle.history.proofs.Verdicts.{Says}
 use Rattle.history.proofs.WeightLines.{Shows, tared-shows, tared-now-shows}
@@ -144,6 +144,7 @@ module _
             (sample needs))
             (answered-cleared p t i (s .weighing) not-reset f)
             (λ is. answered-told p t i (s .weighing) not-reset f allowed end (rw (text, is)) range)
+            (λ is. answered-quietly p t i (s .weighing) not-reset f _ (unit-silent p (s .weighing .unit)))
 
 -- ---- a finished line
 
@@ -159,7 +160,7 @@ module _
   where
     -- the byte leaves the weighing alone
     byte-followed : Follows (s .weighing) (taken t (byteIs m))
-    byte-followed = record { latest = f .latest; zero = f .zero; tare = f .tare; rounded = f .rounded }
+    byte-followed = record { latest = f .latest; zero = f .zero; tare = f .tare; rounded = f .rounded; unit = f .unit }
 
     -- a line other than @ resets nothing
     no-reset : isResetLine (finishedLine (t .line)) ≡ false → afterReset t (byteIs m) (taken t (byteIs m)) ≡ taken t (byteIs m)
@@ -174,7 +175,7 @@ module _
     -- the tare is 0 on both sides
     reset-followed : isResetLine (finishedLine (t .line)) ≡ true → Follows (resetState s .weighing) (afterReset t (byteIs m) (taken t (byteIs m)))
     unfolding resetState
-    reset-followed reset = rw (a-reset reset) (record { latest = f .latest; zero = f .zero; tare = rw zero-exact (near-refl 0 (pos 0)); rounded = zero-rounded })
+    reset-followed reset = rw (a-reset reset) (record { latest = f .latest; zero = f .zero; tare = rw zero-exact (near-refl 0 (pos 0)); rounded = zero-rounded; unit = f .unit })
 
     -- what each verdict makes of the state
     pub performed-reacted
@@ -194,6 +195,8 @@ module _
         (typed .rounded) (ap (fieldOf (resolutionIn p (s .weighing) .decimals)) (typed .printed)) (typed .range)
     performed-reacted l (verdicts.Change n) says = change-reacted p allowed t (byteIs m) (no-reset says) s byte-followed range (n .0)
     performed-reacted l (Show n) says = answered-quietly p t (byteIs m) (s .weighing) (no-reset says) byte-followed _ (shown-silent p)
+    performed-reacted l (Select u) says =
+        answered-selected p t (byteIs m) (s .weighing) (no-reset (says .other)) byte-followed u end (says .line) (says .unit)
 
 -- ---- a byte that ends no line
 
@@ -204,7 +207,7 @@ module _ (p : Profile) (t : Tally) (m : Marked) (w : Weighing) (f : Follows w t)
 
   pub byte-answered : Answered p t (byteIs m) w (answerBytes p answers.Nothing)
   byte-answered =
-      answered-quietly p t (byteIs m) w still (record { latest = f .latest; zero = f .zero; tare = f .tare; rounded = f .rounded }) _ (nothing-silent p)
+      answered-quietly p t (byteIs m) w still (record { latest = f .latest; zero = f .zero; tare = f .tare; rounded = f .rounded; unit = f .unit }) _ (nothing-silent p)
 
 -- ---- a sample
 
@@ -224,7 +227,7 @@ module _
 
     -- the load is the latest on both sides
     sample-followed : (stable : Bool) → Follows (withSample (s .weighing) z stable) (taken t (sampleIs (z .0) stable))
-    sample-followed stable = record { latest = refl; zero = f .zero; tare = f .tare; rounded = f .rounded }
+    sample-followed stable = record { latest = refl; zero = f .zero; tare = f .tare; rounded = f .rounded; unit = f .unit }
 
     -- an answer that grants and weighs nothing
     passed-over : (stable : Bool) (l : List ℕ) → Silent l → Answered p t (sampleIs (z .0) stable) (withSample (s .weighing) z stable) l

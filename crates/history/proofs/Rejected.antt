@@ -4,11 +4,12 @@ use mathlib.Core.Path.{_≡_, refl}
 use mathlib.Core.Bool.{true}
 use Rattle.answer.specs.Commands.{placeIn, placeOf}
 use Rattle.answer.specs.Lines.{headText, weightText, lineOf}
+use Rattle.line.specs.Judging.{unitIn}
 use Rattle.host.specs.Reads.{guessed, confirms, readLine}
 use Rattle.text.specs.Field.{fieldOf}
 use Rattle.text.specs.Reading.{isDecimal, decimalsIn, valueIn, isWritten, readNumber, readField}
 use Rattle.text.specs.Typed.{isTyped, readTyped}
-use Rattle.text.specs.UnitTexts.{firstNamed, unitNamed}
+use Rattle.text.specs.UnitTexts.{firstMarked, unitNamed, unitCoded}
 use Rattle.weight.specs.Places.{lastDigits, digitsIn, digitsOf, decimalOf, numberText, widthOf, fitsField}
 use Rattle.weight.specs.Rounding.{halfUp, placeFemtograms, stepFemtograms, exactFemtograms}
 use Rattle.weight.specs.Amounts.{typedFemtograms, typedMicrograms, amountOf}
@@ -16,8 +17,8 @@ use Rattle.weight.specs.Presets.{presetSteps, presetPlaces, presetFemtograms}
 use Rattle.history.specs.Claim.{takenEvents}
 use Rattle.history.specs.EndToEnd.{piecesAfter, piecesOf, piecesHold, hostAccepts}
 use Rattle.history.specs.OnChange.{sendsAfterLine, sendsAfter, sendsHold, senderHolds}
-use Rattle.history.specs.Rejected.{weightRows, stateRows, waitRows, sentRows, sendingRows, bufferRows, rows, allTell}
-use Rattle.history.specs.Tally.{inForce, afterReset, granted, weightHolds, loadHolds, typedHolds, tallied, holds, afterEvent, eventHolds, accepts}
+use Rattle.history.specs.Rejected.{weightRows, stateRows, waitRows, sentRows, sendingRows, bufferRows, unitRows, rows, allTell}
+use Rattle.history.specs.Tally.{inForce, afterReset, granted, weightHolds, loadHolds, typedHolds, unitHolds, tallied, holds, afterEvent, eventHolds, accepts}
 use Rattle.history.specs.TypedTares.{showsTyped, eventShows, shownAsTyped}
 use Rattle.history.specs.Waits.{waitsHold}
 
@@ -29,6 +30,7 @@ unfolding
     sentRows
     sendingRows
     bufferRows
+    unitRows
     rows
     takenEvents
     allTell
@@ -38,6 +40,7 @@ unfolding
     weightHolds
     loadHolds
     typedHolds
+    unitHolds
     tallied
     holds
     afterEvent
@@ -70,8 +73,10 @@ unfolding
     isWritten
     readNumber
     readField
-    firstNamed
+    firstMarked
     unitNamed
+    unitCoded
+    unitIn
     lastDigits
     digitsIn
     digitsOf

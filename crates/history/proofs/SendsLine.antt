@@ -10,11 +10,11 @@ use Rattle.answer.specs.declared.answer.Answer.the-variants as answers
 use Rattle.answer.specs.declared.answer.Status.the-variants.{A}
 use Rattle.answer.specs.Commands.{nameOf, isSI, isSIR, placeS, placeSI, placeSIR, placeSR, placeT, placeTAC, placeTI, placeZ, placeZI, placeI4}
 use Rattle.answer.specs.Lines.{headOf}
-use Rattle.commands.specs.Reactions.{changing, identificationOf, performed, resetState, run, sendingAs, showingWeight, situationOf}
+use Rattle.commands.specs.Reactions.{changing, identificationOf, performed, resetState, run, sendingAs, showingWeight, situationOf, unitTold}
 use Rattle.commands.proofs.Ways.{by-choice, run-cases}
 use Rattle.device.specs.Calls.{answerBytes}
 use Rattle.line.specs.declared.judge.Verdict.{Verdict}
-use Rattle.line.specs.declared.judge.Verdict.the-variants.{Erroneous, Reset, Busy, Wrong, NoSample, Run, Preset, Show}
+use Rattle.line.specs.declared.judge.Verdict.the-variants.{Erroneous, Reset, Busy, Wrong, NoSample, Run, Preset, Show, Select}
 use Rattle.line.specs.declared.judge.Verdict.the-variants as verdicts
 use Rattle.line.specs.declared.receive.Line.{Line}
 use Rattle.line.specs.Unbounded.{Marked, byteIn, judgementOf}
@@ -46,7 +46,7 @@ use Rattle.history.specs.Tally.{Tally, inForce, isResetLine}
 use Rattle.history.specs.Waits.{isEmpty}
 use Rattle.history.proofs.Following.{Follows, same-in-force}
 use Rattle.history.proofs.SentAnswers.{silent-empty}
-use Rattle.history.proofs.SentHeads.{net-in, heads, error-uncarried, list-uncarried, versions-uncarried, shown-uncarried, weight-shown-uncarried, cleared-uncarried, told-uncarried, unready-uncarried, wrong-uncarried, text-uncarried, zeroed-uncarried, tared-uncarried}
+use Rattle.history.proofs.SentHeads.{net-in, heads, error-uncarried, list-uncarried, versions-uncarried, unit-uncarried, selected-uncarried, shown-uncarried, weight-shown-uncarried, cleared-uncarried, told-uncarried, unready-uncarried, wrong-uncarried, text-uncarried, zeroed-uncarried, tared-uncarried}
 use Rattle.history.proofs.Verdicts.{verdict-says}
 
 -- ---- what is sent unasked, as the follower has it
@@ -262,6 +262,7 @@ module _
         (λ is.
         keep (reaction s (tareAnswer (resolutionIn p (s .weighing)) (s .weighing .tare .0))) refl refl
         (told-uncarried p (numberIn (resolutionIn p (s .weighing)) (pos (s .weighing .tare .0)))))
+        (λ is. keep (unitTold s) refl refl (unit-uncarried p (s .weighing .unit)))
 
 -- SR number unit
 spaced-name : (q : List ℕ) → beforeSpace (ascii "SR " ++ q) ≡ ascii "SR"
@@ -309,3 +310,6 @@ module _ (p : Profile) (s : State) (f : List Marked) (x : Sends) (old : Follow s
   performed-sent l (Show n) h =
       kept-sent p s f (verdict-says (situationOf p s) f (Show n) h) x old (performed p s l (Show n)) refl refl
       (shown-uncarried p)
+  performed-sent l (Select u) h =
+      kept-sent p s f (verdict-says (situationOf p s) f (Select u) h .other) x old (performed p s l (Select u)) refl refl
+      (selected-uncarried p)

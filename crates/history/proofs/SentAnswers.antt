@@ -7,7 +7,7 @@ use Prim.Native.Nat.{ℕ}
 use lib.IntN.{pos, negℤ}
 use lib.Signed.{ltZ}
 use Rattle.answer.specs.declared.answer.Answer.{Answer}
-use Rattle.answer.specs.declared.answer.Answer.the-variants.{Nothing, Plain, Weight, ErrorLine, Text, Listed, CommandList, Versions}
+use Rattle.answer.specs.declared.answer.Answer.the-variants.{Nothing, Plain, Weight, ErrorLine, Text, Listed, CommandList, Versions, HostUnit}
 use Rattle.answer.specs.Commands.{nameOf, levelOf, placeS, placeZ, placeT}
 use Rattle.answer.specs.Lines.{lineEnd, quoted, headText, weightText, errorText, listedLine, listedFrom, lineOf, headOf}
 use Rattle.model.specs.declared.profile.Profile.{Profile}
@@ -21,6 +21,7 @@ use Rattle.answer.specs.declared.answer.Status.{Status}
 use Rattle.answer.specs.declared.answer.Status.the-variants.{A, S, Over, Under}
 use Rattle.weight.specs.Characters.{digit}
 use Rattle.text.specs.Ascii.{ascii}
+use Rattle.text.specs.UnitTexts.{unitCode}
 use Rattle.history.specs.Waits.{isEmpty, settles}
 
 -- nothing is sent
@@ -33,6 +34,7 @@ isSilent (Text c) = false
 isSilent (Listed last c) = false
 isSilent CommandList = false
 isSilent Versions = false
+isSilent (HostUnit u) = false
 
 -- a line has at least its CR LF
 line-full : (l : List ℕ) → isEmpty (l ++ lineEnd) ≡ false
@@ -50,6 +52,7 @@ silent-empty p (Text c) = line-full (nameOf c ++ ascii " A " ++ quoted (informat
 silent-empty p (Listed last c) = line-full (ascii "I0 " ++ cond last (ascii "A") (ascii "B") ++ ascii " " ++ (digit (levelOf c) ∷ []) ++ ascii " " ++ quoted (nameOf c))
 silent-empty p CommandList = refl
 silent-empty p Versions = refl
+silent-empty p (HostUnit u) = line-full (ascii "M21 A 0 " ++ unitCode u)
 
 -- ---- the answers of S, Z and T
 

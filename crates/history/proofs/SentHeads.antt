@@ -8,13 +8,13 @@ use borrow.Author.Tests.{not-true}
 use lib.IntN.{pos, negℤ, _-ℤ_}
 use lib.Signed.{ltZ}
 use Rattle.answer.specs.declared.answer.Answer.{Answer}
-use Rattle.answer.specs.declared.answer.Answer.the-variants.{Plain, Weight, ErrorLine, Text, CommandList, Versions}
+use Rattle.answer.specs.declared.answer.Answer.the-variants.{Plain, Weight, ErrorLine, Text, CommandList, Versions, HostUnit}
 use Rattle.answer.specs.declared.answer.Error.{Error}
 use Rattle.answer.specs.declared.answer.Error.the-variants.{Syntax, Transmission, Logical}
 use Rattle.answer.specs.declared.answer.Number.{Number}
 use Rattle.answer.specs.declared.answer.Status.{Status}
 use Rattle.answer.specs.declared.answer.Status.the-variants.{A, S, D, I, L}
-use Rattle.answer.specs.Commands.{names, placeD, placeDW, placeS, placeTA, placeTAC, placeTI, placeZI}
+use Rattle.answer.specs.Commands.{names, placeD, placeDW, placeM21, placeS, placeTA, placeTAC, placeTI, placeZI}
 use Rattle.answer.proofs.Names.{at-name}
 use Rattle.answer.specs.Lines.{lineEnd, quoted, statusText, headText, listedLine, listedFrom, lineOf, headOf}
 use Rattle.device.specs.Calls.{answerBytes}
@@ -22,6 +22,7 @@ use Rattle.model.specs.declared.profile.Profile.{Profile}
 use Rattle.model.specs.Profiles.{informationText, resolutionIn}
 use Rattle.model.specs.declared.weighing.Weighing.{Weighing}
 use Rattle.text.specs.Ascii.{ascii}
+use Rattle.weight.specs.declared.units.WeightUnit.{WeightUnit}
 use Rattle.weighing.specs.Weighings.{grossOf, netOf, numberIn, inLimits, isOutside, stability, weighed, zeroed, tared, zeroedBy, weighedBy, taredBy}
 use Rattle.history.specs.OnChange.{grossIn, netIn, isCarriedOut, isSent}
 use Rattle.history.specs.Tally.{Tally, begins}
@@ -92,6 +93,15 @@ module _ (p : Profile) where
   pub versions-uncarried : Uncarried p Versions
   unfolding answerBytes lineOf
   versions-uncarried = refl
+
+  -- M21 A 0 code, M21 A
+  pub unit-uncarried : (u : WeightUnit) → Uncarried p (HostUnit u)
+  unfolding answerBytes lineOf
+  unit-uncarried u = refl
+
+  pub selected-uncarried : Uncarried p (Plain (headOf placeM21 A))
+  unfolding answerBytes lineOf headText
+  selected-uncarried = refl
 
   -- D A, DW A, TAC A, TA A
   pub shown-uncarried : Uncarried p (Plain (headOf placeD A))

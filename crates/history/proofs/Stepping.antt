@@ -54,7 +54,7 @@ start-followed p =
     record {
       allowed = start-allowed p;
       line = keeps-empty;
-      weighing = record { latest = refl; zero = refl; tare = rw zero-exact (near-refl 0 (pos 0)); rounded = zero-rounded };
+      weighing = record { latest = refl; zero = refl; tare = rw zero-exact (near-refl 0 (pos 0)); rounded = zero-rounded; unit = refl };
     }
 
 -- the tally accepts a call, and follows the state that it returned

@@ -10,9 +10,10 @@ use Rattle.model.specs.declared.profile.Profile.{Profile}
 use Rattle.text.specs.Ascii.{ascii, sameText}
 use Rattle.text.specs.Reading.{readField, isDecimal}
 use Rattle.weight.specs.declared.rounding.Resolution.{Resolution}
+use Rattle.weight.specs.declared.units.WeightUnit.{WeightUnit}
 use Rattle.weight.specs.Rounding.{placeFemtograms, printedFemtograms, exactFemtograms, placesOf, Near}
-use Rattle.history.specs.Tally.{Input, Tally, inForce, chosenTally, withTareOf, withZeroOf, taken, ends, ended, endedText, isResetLine, afterReset, latestOf, isLoaded, typedText, typedTare, exactWeight, allowance, numberFemtograms, isWhole, tenOf, compares, grantsZero, grantsTare, grantsClear, grantsTyped, tellsLimit, granted, loadHolds, typedHolds, weightHolds, tallied, holds}
-use Rattle.history.proofs.AnswerKinds.{Tests, Denied, Silent, Zeroes, Tares, Clears, Tells, Weighs}
+use Rattle.history.specs.Tally.{Input, Tally, inForce, chosenTally, withTareOf, withUnitOf, withZeroOf, taken, ends, ended, endedText, isResetLine, afterReset, latestOf, isLoaded, typedText, typedTare, exactWeight, allowance, numberFemtograms, isWhole, tenOf, compares, grantsZero, grantsTare, grantsClear, grantsTyped, tellsLimit, isUnitLine, unitSet, grantsUnit, granted, loadHolds, typedHolds, unitHolds, weightHolds, tallied, holds}
+use Rattle.history.proofs.AnswerKinds.{Tests, Denied, Silent, Zeroes, Tares, Clears, Tells, Weighs, Sets}
 use Rattle.history.proofs.WeightLines.{Shows}
 
 -- ---- the line is what the input makes of it, whatever is answered
@@ -23,30 +24,33 @@ reset-line-by true u = refl
 reset-line-by false u = refl
 
 granted-line-by
-    : (z t c a : Bool) (u : Tally) (latest tare typed : ℤ)
+    : (z t c a m : Bool) (u : Tally) (latest tare typed : ℤ) (v : WeightUnit)
     → chosenTally z (withZeroOf u latest)
-    (chosenTally t (withTareOf u tare false) (chosenTally c (withTareOf u (pos 0) false) (chosenTally a (withTareOf u typed true) u)))
+    (chosenTally t (withTareOf u tare false)
+    (chosenTally c (withTareOf u (pos 0) false) (chosenTally a (withTareOf u typed true) (chosenTally m (withUnitOf u v) u))))
     .line
     ≡ u .line
-granted-line-by true t c a u latest tare typed = refl
-granted-line-by false true c a u latest tare typed = refl
-granted-line-by false false true a u latest tare typed = refl
-granted-line-by false false false true u latest tare typed = refl
-granted-line-by false false false false u latest tare typed = refl
+granted-line-by true t c a m u latest tare typed v = refl
+granted-line-by false true c a m u latest tare typed v = refl
+granted-line-by false false true a m u latest tare typed v = refl
+granted-line-by false false false true m u latest tare typed v = refl
+granted-line-by false false false false true u latest tare typed v = refl
+granted-line-by false false false false false u latest tare typed v = refl
 
 module _ (p : Profile) (t : Tally) (i : Input) (l : List ℕ) where
   pub tallied-line : tallied p t i l .line ≡ taken t i .line
   unfolding tallied granted afterReset
   tallied-line =
       let u = afterReset t i (taken t i) in
-      granted-line-by (grantsZero l) (grantsTare l) (grantsClear l) (grantsTyped t i l) u (latestOf u) (exactFemtograms (latestOf u -ℤ u .zero)) (typedTare (inForce p t) (endedText t i))
+      granted-line-by (grantsZero l) (grantsTare l) (grantsClear l) (grantsTyped t i l) (grantsUnit t i l) u (latestOf u)
+      (exactFemtograms (latestOf u -ℤ u .zero)) (typedTare (inForce p t) (endedText t i)) (unitSet (endedText t i))
       ∙ reset-line-by (ends t i && isResetLine (ended t i)) (taken t i)
 
   -- ---- the tally after the answer
 
-  pub after-denied : {limit : Bool} → Tests false false false false false limit l → tallied p t i l ≡ afterReset t i (taken t i)
+  pub after-denied : {limit : Bool} → Tests false false false false false limit false l → tallied p t i l ≡ afterReset t i (taken t i)
   unfolding tallied granted
-  after-denied k = rw (k .zero-is, k .tare-is, k .clear-is, k .told-is)
+  after-denied k = rw (k .zero-is, k .tare-is, k .clear-is, k .told-is, k .unit-is)
 
   pub after-zeroes : Zeroes l → tallied p t i l ≡ withZeroOf (afterReset t i (taken t i)) (latestOf (afterReset t i (taken t i)))
   unfolding tallied granted
@@ -69,11 +73,15 @@ module _ (p : Profile) (t : Tally) (i : Input) (l : List ℕ) where
 
   pub after-told : Tells l → sameText (endedText t i) (ascii "TA") ≡ true → tallied p t i l ≡ afterReset t i (taken t i)
   unfolding tallied granted
-  after-told k alone = rw (k .zero-is, k .tare-is, k .clear-is, k .told-is, alone)
+  after-told k alone = rw (k .zero-is, k .tare-is, k .clear-is, k .told-is, alone, k .unit-is)
 
   pub after-weighs : Weighs l → tallied p t i l ≡ afterReset t i (taken t i)
   unfolding tallied granted
-  after-weighs k = rw (k .zero-is, k .tare-is, k .clear-is, k .told-is)
+  after-weighs k = rw (k .zero-is, k .tare-is, k .clear-is, k .told-is, k .unit-is)
+
+  pub after-sets : Sets l → isUnitLine (ended t i) ≡ true → tallied p t i l ≡ withUnitOf (afterReset t i (taken t i)) (unitSet (endedText t i))
+  unfolding tallied granted
+  after-sets k line = rw (k .zero-is, k .tare-is, k .clear-is, k .told-is, k .unit-is, line)
 
 -- ---- a weight that is near enough
 
@@ -91,20 +99,24 @@ module _ (r : Resolution) (t : Tally) (l : List ℕ) (w : ℤ) (s : Shows r w l)
 
 module _ (p : Profile) (t : Tally) (i : Input) (l : List ℕ) where
   pub silent-holds : Silent l → holds p t i l ≡ true
-  unfolding holds loadHolds typedHolds weightHolds
-  silent-holds k = rw (k .zero-is, k .tare-is, k .told-is, k .net-is, k .limit-is)
+  unfolding holds loadHolds typedHolds unitHolds weightHolds
+  silent-holds k = rw (k .zero-is, k .tare-is, k .told-is, k .net-is, k .unit-is, k .limit-is)
 
   pub denied-holds : Denied l → isLoaded (taken t i) ≡ true → holds p t i l ≡ true
-  unfolding holds loadHolds typedHolds weightHolds
-  denied-holds k loaded = rw (k .zero-is, k .tare-is, k .told-is, k .net-is, loaded, or-true (not (tellsLimit l)))
+  unfolding holds loadHolds typedHolds unitHolds weightHolds
+  denied-holds k loaded = rw (k .zero-is, k .tare-is, k .told-is, k .net-is, k .unit-is, loaded, or-true (not (tellsLimit l)))
 
   pub zeroes-holds : Zeroes l → isLoaded (taken t i) ≡ true → holds p t i l ≡ true
-  unfolding holds loadHolds typedHolds weightHolds
-  zeroes-holds k loaded = rw (k .zero-is, k .tare-is, k .told-is, k .net-is, loaded)
+  unfolding holds loadHolds typedHolds unitHolds weightHolds
+  zeroes-holds k loaded = rw (k .zero-is, k .tare-is, k .told-is, k .net-is, k .unit-is, loaded)
 
   pub clears-holds : Clears l → holds p t i l ≡ true
-  unfolding holds loadHolds typedHolds weightHolds
-  clears-holds k = rw (k .zero-is, k .tare-is, k .told-is, k .net-is, k .limit-is)
+  unfolding holds loadHolds typedHolds unitHolds weightHolds
+  clears-holds k = rw (k .zero-is, k .tare-is, k .told-is, k .net-is, k .unit-is, k .limit-is)
+
+  pub sets-holds : Sets l → ends t i ≡ true → isUnitLine (ended t i) ≡ true → holds p t i l ≡ true
+  unfolding holds loadHolds typedHolds unitHolds weightHolds
+  sets-holds k end line = rw (k .zero-is, k .tare-is, k .told-is, k .net-is, k .unit-is, k .limit-is, end, line)
 
   -- a weight in the resolution in force
   module _
@@ -115,18 +127,18 @@ module _ (p : Profile) (t : Tally) (i : Input) (l : List ℕ) where
       (near : Near (allowance r (tallied p t i l)) (printedFemtograms r (placesOf r w)) (exactWeight (tallied p t i l) l))
     where
       pub weighs-holds : Weighs l → isLoaded (taken t i) ≡ true → holds p t i l ≡ true
-      unfolding holds loadHolds typedHolds weightHolds
-      weighs-holds k loaded = rw (k .zero-is, k .tare-is, k .told-is, k .net-is, loaded, ← same) (weight-compares r (tallied p t i l) l w s near)
+      unfolding holds loadHolds typedHolds unitHolds weightHolds
+      weighs-holds k loaded = rw (k .zero-is, k .tare-is, k .told-is, k .net-is, k .unit-is, loaded, ← same) (weight-compares r (tallied p t i l) l w s near)
 
       pub tares-holds : Tares l → isLoaded (taken t i) ≡ true → holds p t i l ≡ true
-      unfolding holds loadHolds typedHolds weightHolds
-      tares-holds k loaded = rw (k .zero-is, k .tare-is, k .told-is, k .net-is, loaded, ← same) (weight-compares r (tallied p t i l) l w s near)
+      unfolding holds loadHolds typedHolds unitHolds weightHolds
+      tares-holds k loaded = rw (k .zero-is, k .tare-is, k .told-is, k .net-is, k .unit-is, loaded, ← same) (weight-compares r (tallied p t i l) l w s near)
 
       pub told-holds : Tells l → ends t i ≡ true → sameText (endedText t i) (ascii "TA") ≡ true → holds p t i l ≡ true
-      unfolding holds loadHolds typedHolds weightHolds
-      told-holds k end alone = rw (k .zero-is, k .tare-is, k .told-is, k .net-is, k .limit-is, end, alone, ← same) (weight-compares r (tallied p t i l) l w s near)
+      unfolding holds loadHolds typedHolds unitHolds weightHolds
+      told-holds k end alone = rw (k .zero-is, k .tare-is, k .told-is, k .net-is, k .unit-is, k .limit-is, end, alone, ← same) (weight-compares r (tallied p t i l) l w s near)
 
       pub typed-holds : Tells l → ends t i ≡ true → sameText (endedText t i) (ascii "TA") ≡ false → isDecimal (typedText (endedText t i)) ≡ true → holds p t i l ≡ true
-      unfolding holds loadHolds typedHolds weightHolds
+      unfolding holds loadHolds typedHolds unitHolds weightHolds
       typed-holds k end other decimal =
-          rw (k .zero-is, k .tare-is, k .told-is, k .net-is, k .limit-is, end, other, decimal, ← same) (weight-compares r (tallied p t i l) l w s near)
+          rw (k .zero-is, k .tare-is, k .told-is, k .net-is, k .unit-is, k .limit-is, end, other, decimal, ← same) (weight-compares r (tallied p t i l) l w s near)

@@ -3,20 +3,22 @@
 use Prim.Native.Nat.{ℕ}
 use mathlib.Core.Path.{_≡_, refl, sym, ap, _∙_}
 use mathlib.Core.Bool.{Bool, true, false, not, false≢true}
-use mathlib.Core.List.{List, map}
+use mathlib.Core.List.{List, _++_, map}
 use borrow.Author.Tests.{not-true}
 use Rattle.answer.specs.Commands.{nameOf}
 use Rattle.line.specs.declared.judge.Situation.{Situation}
 use Rattle.line.specs.declared.judge.Verdict.{Verdict}
-use Rattle.line.specs.declared.judge.Verdict.the-variants.{Erroneous, Reset, Busy, Wrong, NoSample, Run, Preset, Change, Show}
+use Rattle.line.specs.declared.judge.Verdict.the-variants.{Erroneous, Reset, Busy, Wrong, NoSample, Run, Preset, Change, Show, Select}
 use Rattle.line.specs.Unbounded.{Marked, byteIn, anyFaulty, judgementOf}
 use Rattle.line.proofs.Proper.{RunMay, run-may}
-use Rattle.line.proofs.Verdicts.{GoodLine, reset-line, reset-judged, run-line, preset-line}
+use Rattle.line.proofs.Verdicts.{GoodLine, reset-line, reset-judged, run-line, preset-line, parameterIn, select-line}
 use Rattle.weight.specs.declared.amount.Tare.{Tare}
 use Rattle.text.specs.Ascii.{ascii, sameText}
+use Rattle.text.specs.Searching.{beforeSpace}
+use Rattle.weight.specs.declared.units.WeightUnit.{WeightUnit}
 use Rattle.weight.proofs.Allowed.{both-left, both-right}
 use Rattle.text.proofs.Named.{same-is}
-use Rattle.history.specs.Tally.{isResetLine, typedText}
+use Rattle.history.specs.Tally.{isResetLine, isUnitLine, typedText, unitSet}
 use Rattle.history.proofs.TypedLines.{TypedAs, typed-as}
 
 -- ---- @
@@ -31,6 +33,7 @@ resets (Run c) = false
 resets (Preset m) = false
 resets (Change t) = false
 resets (Show n) = false
+resets (Select u) = false
 
 resets-is : (v : Verdict) → resets v ≡ true → v ≡ Reset
 resets-is (Erroneous e) h = absurd (false≢true h)
@@ -42,6 +45,7 @@ resets-is (Run c) h = absurd (false≢true h)
 resets-is (Preset m) h = absurd (false≢true h)
 resets-is (Change t) h = absurd (false≢true h)
 resets-is (Show n) h = absurd (false≢true h)
+resets-is (Select u) h = absurd (false≢true h)
 
 -- two tests that hold together are the same
 same-tests : (a b : Bool) → (a ≡ true → b ≡ true) → (b ≡ true → a ≡ true) → a ≡ b
@@ -82,6 +86,12 @@ pub record PresetSays (j : Situation) (f : List Marked) (m : Tare) : Type 0 wher
   pub more : sameText (map byteIn f) (ascii "TA") ≡ false
   pub typed : TypedAs (j .capacity) (j .resolution) (typedText (map byteIn f)) (m .0)
 
+-- the line M21 0 code
+pub record SelectSays (f : List Marked) (u : WeightUnit) : Type 0 where
+  pub other : isResetLine f ≡ false
+  pub line : isUnitLine f ≡ true
+  pub unit : unitSet (map byteIn f) ≡ u
+
 abbrev pub Says : Situation → List Marked → Verdict → Type 0
 Says j f (Erroneous e) = isResetLine f ≡ false
 Says j f Reset = isResetLine f ≡ true
@@ -92,6 +102,10 @@ Says j f (Run c) = RunSays j f c
 Says j f (Preset m) = PresetSays j f m
 Says j f (Change t) = isResetLine f ≡ false
 Says j f (Show n) = isResetLine f ≡ false
+Says j f (Select u) = SelectSays f u
+
+unit-name : (q : List ℕ) → beforeSpace (ascii "M21 " ++ q) ≡ ascii "M21"
+unit-name q = refl
 
 module _ (j : Situation) (f : List Marked) where
   by-verdict : {v : Verdict} → judgementOf j f ≡ v → isResetLine f ≡ resets v
@@ -114,3 +128,7 @@ module _ (j : Situation) (f : List Marked) where
       }
   verdict-says (Change t) h = by-verdict h
   verdict-says (Show n) h = by-verdict h
+  verdict-says (Select u) h =
+      let line = select-line j f h in
+      let name : beforeSpace (map byteIn f) ≡ ascii "M21" = ap beforeSpace (line .line .bytes) ∙ unit-name (parameterIn f) in
+      record { other = by-verdict h; line = rw (line .line .good, name, line .unit); unit = rw (line .unit) }

@@ -9,7 +9,7 @@ use mathlib.Core.List.{List, [], _∷_, reverse}
 use lib.Dec.{leb, eqb}
 use lib.IntN.{natAbs, _-ℤ_}
 use Rattle.answer.specs.declared.answer.Answer.{Answer}
-use Rattle.answer.specs.declared.answer.Answer.the-variants.{Nothing, Plain, Weight, ErrorLine, Text, Listed, CommandList, Versions}
+use Rattle.answer.specs.declared.answer.Answer.the-variants.{Nothing, Plain, Weight, ErrorLine, Text, Listed, CommandList, Versions, HostUnit}
 use Rattle.model.specs.declared.profile.Profile.{Profile}
 use Rattle.history.specs.Claim.{OverCalls}
 use Rattle.history.specs.Tally.{Event, Tally, startTally, inForce, numberFemtograms, exactWeight, allowance, tallied, afterEvent}
@@ -54,6 +54,7 @@ valueHolds r t l (Text c) = true
 valueHolds r t l (Listed last c) = true
 valueHolds r t l CommandList = true
 valueHolds r t l Versions = true
+valueHolds r t l (HostUnit u) = sameText (unitText u) (unitText (r .unit))
 
 abbrev pub pieceHolds : Resolution → Tally → List ℕ → Read → Bool
 pieceHolds r t l (reads.Line a place) = valueHolds r t l a

@@ -1,5 +1,6 @@
 pub mod Claim
 pub mod EndToEnd
+pub mod Grams
 pub mod OnChange
 pub mod Rejected
 pub mod Tally

@@ -10,7 +10,7 @@ use Rattle.model.specs.declared.profile.Profile.{Profile}
 use Rattle.profiles.specs.ProfileA.{profileWith}
 use Rattle.text.specs.Ascii.{ascii}
 use Rattle.weight.specs.declared.rounding.Resolution.{Resolution}
-use Rattle.weight.specs.declared.units.WeightUnit.the-variants.{G, Mg, Oz, Gn}
+use Rattle.weight.specs.declared.units.WeightUnit.the-variants.{G, Mg, Ct, Oz, Gn}
 use Rattle.history.specs.Claim.{takenEvents}
 use Rattle.history.specs.EndToEnd.{hostAccepts}
 use Rattle.history.specs.OnChange.{startSender, senderHolds}
@@ -72,18 +72,28 @@ accepted host p es = hostAccepts p startTally es
 accepted sender p es = senderHolds p startSender es
 accepted typedTares p es = shownAsTyped p startTally es
 
--- profile A, in grams with four decimals, in ounces with five, in grains with four and in milligrams with three
+-- M21 with a code, granted
+abbrev pub set : String → List Event
+set command = line command "M21 A\r\n"
+
+-- profile A, in grams with four decimals, in ounces with five, in grains with four, in milligrams with three and in carats with two
 abbrev pub inGrams : Follower → List Event → List Event → Row
 inGrams f wrong right = record { follower = f; resolution = record { unit = G; decimals = 4; step = 1 }; wrong = wrong; right = right }
 
+abbrev pub inUnit : Resolution → String → Follower → List Event → List Event → Row
+inUnit r command f wrong right = record { follower = f; resolution = r; wrong = set command ++ wrong; right = set command ++ right }
+
 abbrev pub inOunces : Follower → List Event → List Event → Row
-inOunces f wrong right = record { follower = f; resolution = record { unit = Oz; decimals = 5; step = 1 }; wrong = wrong; right = right }
+inOunces = inUnit (record { unit = Oz; decimals = 5; step = 1 }) "M21 0 8"
 
 abbrev pub inGrains : Follower → List Event → List Event → Row
-inGrains f wrong right = record { follower = f; resolution = record { unit = Gn; decimals = 4; step = 1 }; wrong = wrong; right = right }
+inGrains = inUnit (record { unit = Gn; decimals = 4; step = 1 }) "M21 0 10"
 
 abbrev pub inMilligrams : Follower → List Event → List Event → Row
-inMilligrams f wrong right = record { follower = f; resolution = record { unit = Mg; decimals = 3; step = 1 }; wrong = wrong; right = right }
+inMilligrams = inUnit (record { unit = Mg; decimals = 3; step = 1 }) "M21 0 3"
+
+abbrev pub inCarats : Follower → List Event → List Event → Row
+inCarats = inUnit (record { unit = Ct; decimals = 2; step = 1 }) "M21 0 5"
 
 unfoldable pub weightRows : List Row
 weightRows =
@@ -320,8 +330,61 @@ bufferRows =
     (taken (stable (pos 1_000_000)) "" ++ whole "TI\r\nSI\r\n" (none ∷ none ∷ none ∷ "T S     1.0000 g\r\n" ∷ none ∷ none ∷ none ∷ "S S     0.0000 g\r\n" ∷ []))
     ∷ []
 
+unfoldable pub unitRows : List Row
+unitRows =
+    -- one microgram over half a step of carats, which is ten steps of grams, and half a step
+    inCarats tally
+    (taken (stable (pos 1_001)) "" ++ line "SI" "S S       0.00 ct\r\n")
+    (taken (stable (pos 1_000)) "" ++ line "SI" "S S       0.00 ct\r\n")
+    -- a weight in the unit before
+    ∷ inCarats tally
+    (taken (stable (pos 14_256_050)) "" ++ line "SI" "S S    14.2561 g\r\n")
+    (taken (stable (pos 14_256_050)) "" ++ line "SI" "S S      71.28 ct\r\n")
+    -- the unit reset by @
+    ∷ inCarats tally
+    (taken (stable (pos 14_256_050)) "" ++ line "@" "I4 A \"VA-0001\"\r\n" ++ line "SI" "S S    14.2561 g\r\n")
+    (taken (stable (pos 14_256_050)) "" ++ line "@" "I4 A \"VA-0001\"\r\n" ++ line "SI" "S S      71.28 ct\r\n")
+    -- a unit set though M21 was refused, and one that no M21 asked for
+    ∷ inGrams tally
+    (taken (stable (pos 14_256_050)) "" ++ line "M21 0 05" "M21 L\r\n" ++ line "SI" "S S      71.28 ct\r\n")
+    (taken (stable (pos 14_256_050)) "" ++ line "M21 0 05" "M21 L\r\n" ++ line "SI" "S S    14.2561 g\r\n")
+    ∷ inGrams tally
+    (taken (stable (pos 14_256_050)) "" ++ line "SI" "S S      71.28 ct\r\n")
+    (taken (stable (pos 14_256_050)) "" ++ line "SI" "S S    14.2561 g\r\n")
+    -- M21 A to the query, to a code that is none, and to a line of another command
+    ∷ inGrams tally (line "M21" "M21 A\r\n") (line "M21" "M21 A 0 0\r\n")
+    ∷ inGrams tally (line "M21 0 20" "M21 A\r\n") (line "M21 0 7" "M21 A\r\n")
+    ∷ inGrams tally (line "TAC" "M21 A\r\n") (line "TAC" "TAC A\r\n")
+    -- a tare of 10 g taken for one of 10 ct
+    ∷ inGrams tally
+    (taken (stable (pos 10_000_000)) "" ++ line "T" "T S    10.0000 g\r\n" ++ set "M21 0 5" ++ line "TA" "TA A      10.00 ct\r\n")
+    (taken (stable (pos 10_000_000)) "" ++ line "T" "T S    10.0000 g\r\n" ++ set "M21 0 5" ++ line "TA" "TA A      50.00 ct\r\n")
+    -- a typed tare rounded to the step of grams, 0.0002 g, and not to that of carats
+    ∷ inCarats typedTares
+    (line "TA 0.014 ct" "TA A       0.02 ct\r\n")
+    (line "TA 0.014 ct" "TA A       0.01 ct\r\n")
+    -- the query tells another unit, and the display unit's place
+    ∷ inCarats host (line "M21" "M21 A 0 0\r\n") (line "M21" "M21 A 0 5\r\n")
+    ∷ inCarats host (line "M21" "M21 A 1 5\r\n") (line "M21" "M21 A 0 5\r\n")
+    -- 30 steps of grams, where carats are in force; and back
+    ∷ inGrams sender
+    (runs ++ set "M21 0 5" ++ taken (stable (pos 59_999)) "S S       0.30 ct\r\n")
+    (runs ++ set "M21 0 5" ++ taken (stable (pos 59_999)) "")
+    ∷ inGrams sender
+    (runs ++ set "M21 0 5" ++ set "M21 0 0" ++ taken (stable (pos 3_000)) "")
+    (runs ++ set "M21 0 5" ++ set "M21 0 0" ++ taken (stable (pos 3_000)) "S S     0.0030 g\r\n")
+    -- SR ended by M21
+    ∷ inGrams sender
+    (runs ++ set "M21 0 5" ++ taken (stable (pos 60_000)) "")
+    (runs ++ set "M21 0 5" ++ taken (stable (pos 60_000)) "S S       0.30 ct\r\n")
+    -- a threshold of 0.05 ct taken for one of 0.05 g
+    ∷ inCarats sender
+    (taken (stable (pos 0)) "" ++ line "SR 0.05 ct" "S S       0.00 ct\r\n" ++ taken (stable (pos 10_000)) "")
+    (taken (stable (pos 0)) "" ++ line "SR 0.05 ct" "S S       0.00 ct\r\n" ++ taken (stable (pos 10_000)) "S S       0.05 ct\r\n")
+    ∷ []
+
 unfoldable pub rows : List Row
-rows = weightRows ++ stateRows ++ waitRows ++ sentRows ++ sendingRows ++ bufferRows
+rows = weightRows ++ stateRows ++ waitRows ++ sentRows ++ sendingRows ++ bufferRows ++ unitRows
 
 -- the wrong one is rejected, the right one accepted
 abbrev pub tells : Row → Bool

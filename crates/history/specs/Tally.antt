@@ -1,4 +1,4 @@
--- Document 01, "The tally of demand 3", and document 02, No. 3. It reads calls and answers alone, never the module's state.
+-- Document 01, "The tally of demand 3", and document 02, No. 3 and No. 5. It reads calls and answers alone, never the module's state.
 -- Assumes nothing.
 use Prim.Native.Nat.{ℕ, zero, _+_, _-_, _*_, _^_}
 use mathlib.Core.Bool.{Bool, true, false, cond, not, _&&_, _||_}
@@ -7,10 +7,13 @@ use lib.Dec.{leb, eqb}
 use lib.IntN.{ℤ, pos, natAbs, _-ℤ_, _*ℤ_}
 use lib.ListN.{length, take, drop}
 use Rattle.model.specs.declared.profile.Profile.{Profile}
+use Rattle.model.specs.Profiles.{resolutionOf}
+use Rattle.line.specs.Judging.{unitIn, isCoded, unitOf}
 use Rattle.line.specs.Unbounded.{Marked, endsUnbounded, afterMarked, finishedLine, byteIn, anyFaulty}
 use Rattle.text.specs.Searching.{beforeSpace, afterSpace}
 use Rattle.text.specs.Ascii.{ascii, sameText}
 use Rattle.weight.specs.declared.units.WeightUnit.{WeightUnit}
+use Rattle.weight.specs.declared.units.WeightUnit.the-variants.{G}
 use Rattle.weight.specs.declared.rounding.Resolution.{Resolution}
 use Rattle.weight.specs.Units.{nanogramsOf}
 use Rattle.text.specs.UnitTexts.{unitText}
@@ -39,27 +42,31 @@ pub data Latest : Type 0 where
   load : ℤ → Latest
 
 -- the line so far (the newest byte first), the latest load, zero in micrograms, tare in femtograms (so that a typed one is not
--- rounded to the microgram) and whether the tare is typed
+-- rounded to the microgram), whether the tare is typed, and the unit in force (No. 5)
 pub record Tally : Type 0 where
   pub line : List Marked
   pub latest : Latest
   pub zero : ℤ
   pub tare : ℤ
   pub typed : Bool
+  pub unit : WeightUnit
 
--- it starts with an empty line, no load, zero 0, tare 0, not typed
+-- it starts with an empty line, no load, zero 0, tare 0, not typed, and g
 abbrev pub startTally : Tally
-startTally = record { line = []; latest = none; zero = pos 0; tare = pos 0; typed = false }
+startTally = record { line = []; latest = none; zero = pos 0; tare = pos 0; typed = false; unit = G }
 
 -- the resolution in force
 unfoldable pub inForce : Profile → Tally → Resolution
-inForce p t = p .resolution
+inForce p t = resolutionOf p (t .unit)
 
 abbrev pub withTareOf : Tally → ℤ → Bool → Tally
-withTareOf t tare typed = record { line = t .line; latest = t .latest; zero = t .zero; tare = tare; typed = typed }
+withTareOf t tare typed = record { line = t .line; latest = t .latest; zero = t .zero; tare = tare; typed = typed; unit = t .unit }
 
 abbrev pub withZeroOf : Tally → ℤ → Tally
-withZeroOf t z = record { line = t .line; latest = t .latest; zero = z; tare = pos 0; typed = false }
+withZeroOf t z = record { line = t .line; latest = t .latest; zero = z; tare = pos 0; typed = false; unit = t .unit }
+
+abbrev pub withUnitOf : Tally → WeightUnit → Tally
+withUnitOf t u = record { line = t .line; latest = t .latest; zero = t .zero; tare = t .tare; typed = t .typed; unit = u }
 
 abbrev pub chosenTally : Bool → Tally → Tally → Tally
 chosenTally true a b = a
@@ -68,8 +75,9 @@ chosenTally false a b = b
 -- ---- A sample: its load becomes the latest load. A byte joins the line with its mark
 
 abbrev pub taken : Tally → Input → Tally
-taken t (byteIs m) = record { line = afterMarked (t .line) m; latest = t .latest; zero = t .zero; tare = t .tare; typed = t .typed }
-taken t (sampleIs z stable) = record { line = t .line; latest = load z; zero = t .zero; tare = t .tare; typed = t .typed }
+taken t (byteIs m) =
+    record { line = afterMarked (t .line) m; latest = t .latest; zero = t .zero; tare = t .tare; typed = t .typed; unit = t .unit }
+taken t (sampleIs z stable) = record { line = t .line; latest = load z; zero = t .zero; tare = t .tare; typed = t .typed; unit = t .unit }
 
 -- whether this call ended a line, and what that line held
 abbrev pub ends : Tally → Input → Bool
@@ -152,12 +160,29 @@ typedTare r l = pos (presetFemtograms r (decimalsIn (typedText l)) (valueIn (typ
 abbrev pub grantsTyped : Tally → Input → List ℕ → Bool
 grantsTyped t i l = tellsTare l && not (sameText (endedText t i) (ascii "TA"))
 
+-- M21 A, and not the query's longer line
+abbrev pub setsUnit : List ℕ → Bool
+setsUnit l = sameText l (ascii "M21 A\r\n")
+
+-- the good line M21 0 code, and the unit of its code
+abbrev pub isUnitLine : List Marked → Bool
+isUnitLine f =
+    not (anyFaulty f) && (sameText (beforeSpace (map byteIn f)) (ascii "M21") && isCoded (unitIn (afterSpace (map byteIn f))))
+
+abbrev pub unitSet : List ℕ → WeightUnit
+unitSet l = unitOf (unitIn (afterSpace l))
+
+-- the unit is set by the last M21 0 code that was answered M21 A
+abbrev pub grantsUnit : Tally → Input → List ℕ → Bool
+grantsUnit t i l = setsUnit l && isUnitLine (ended t i)
+
 unfoldable pub granted : Resolution → Tally → Input → List ℕ → Tally → Tally
 granted r before i l t =
     chosenTally (grantsZero l) (withZeroOf t (latestOf t))
     (chosenTally (grantsTare l) (withTareOf t (exactFemtograms (latestOf t -ℤ t .zero)) false)
     (chosenTally (grantsClear l) (withTareOf t (pos 0) false)
-    (chosenTally (grantsTyped before i l) (withTareOf t (typedTare r (endedText before i)) true) t)))
+    (chosenTally (grantsTyped before i l) (withTareOf t (typedTare r (endedText before i)) true)
+    (chosenTally (grantsUnit before i l) (withUnitOf t (unitSet (endedText before i))) t))))
 
 -- ---- Then a weight answer is compared
 
@@ -209,6 +234,10 @@ unfoldable pub typedHolds : Tally → Input → List ℕ → Bool
 typedHolds t i l =
     not (tellsTare l) || (ends t i && (not (grantsTyped t i l) || isDecimal (typedText (endedText t i))))
 
+-- M21 A comes at the end of a line M21 0 code
+unfoldable pub unitHolds : Tally → Input → List ℕ → Bool
+unitHolds t i l = not (setsUnit l) || (ends t i && isUnitLine (ended t i))
+
 -- ---- one call, and a list of them
 
 -- the tally after a call that was not refused; the resolution in force before it rounds a typed tare
@@ -216,7 +245,8 @@ unfoldable pub tallied : Profile → Tally → Input → List ℕ → Tally
 tallied p t i l = granted (inForce p t) t i l (afterReset t i (taken t i))
 
 unfoldable pub holds : Profile → Tally → Input → List ℕ → Bool
-holds p t i l = loadHolds (taken t i) l && typedHolds t i l && weightHolds (inForce p (tallied p t i l)) (tallied p t i l) l
+holds p t i l =
+    loadHolds (taken t i) l && typedHolds t i l && unitHolds t i l && weightHolds (inForce p (tallied p t i l)) (tallied p t i l) l
 
 -- A refused call changes nothing in it
 unfoldable pub afterEvent : Profile → Tally → Event → Tally

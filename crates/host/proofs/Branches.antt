@@ -9,16 +9,16 @@ use borrow.Author.Tests.{eq-eqb, ne-eqb, lt-ltb, le-ltb}
 use lib.Dec.{eqb, ltb, leb·suc-suc}
 use lib.ListN.{length, getD, take, drop}
 use lib.Seq.{length-take-le}
-use Rattle.answer.specs.Commands.{placeOf, hasText}
+use Rattle.answer.specs.Commands.{placeOf, hasText, placeM21}
 use Rattle.answer.specs.declared.answer.Answer.{Answer}
 use Rattle.answer.specs.declared.answer.Answer.the-variants.{Plain, Text, Listed, Versions}
 use Rattle.answer.specs.declared.answer.Head.{Head}
 use Rattle.answer.specs.declared.answer.Status.{Status}
-use Rattle.host.specs.Reads.{errorGuess, statusGuess, weightGuess, headGuess, fieldGuess, unitGuess, listedGuess, namedGuess, guessed}
+use Rattle.host.specs.Reads.{errorGuess, statusGuess, weightGuess, headGuess, fieldGuess, unitGuess, listedGuess, codeGuess, hostUnitGuess, namedGuess, guessed}
 use Rattle.text.specs.Searching.{beforeSpace, hasSpace}
 use Rattle.weight.specs.Characters.{space}
 use Rattle.text.specs.Reading.{readField}
-use Rattle.text.specs.UnitTexts.{unitNamed}
+use Rattle.text.specs.UnitTexts.{unitNamed, unitCoded}
 use Rattle.text.specs.declared.reading.FieldRead.{FieldRead}
 use Rattle.text.specs.declared.unit_texts.UnitRead.{UnitRead}
 
@@ -80,6 +80,9 @@ pub listed-is : (l : List ℕ) {t : List ℕ} {size c b : ℕ} → size ≡ leng
     → Listed (eqb b 65) c ≡ listedGuess l
 listed-is l p q r e = rw (e, r, q, p)
 
+pub code-is : (l : List ℕ) {t : List ℕ} {size : ℕ} {u : UnitRead} → size ≡ length l - 10 → t ≡ take size (drop 8 l) → u ≡ unitCoded t → u ≡ codeGuess l
+code-is l p q e = e ∙ rw (q, p)
+
 -- ---- by the name
 
 module _ (l : List ℕ) (n c : ℕ) (name : n ≡ length (beforeSpace l)) where
@@ -99,6 +102,10 @@ module _ (l : List ℕ) (n c : ℕ) (name : n ≡ length (beforeSpace l)) where
     pub text-branch : (c ≡ 0 → ⊥) → (c ≡ 1 → ⊥) → hasText c ≡ true → Text c ≡ namedGuess c l
     text-branch z o i = rw (longer, ne-eqb c 0 z, ne-eqb c 1 o, i)
 
-    pub weight-branch : {h : Head} {f : FieldRead} {u : UnitRead} {a : Answer} → (c ≡ 0 → ⊥) → (c ≡ 1 → ⊥) → hasText c ≡ false
+    pub host-unit-branch : {u : UnitRead} {a : Answer} → (c ≡ 0 → ⊥) → (c ≡ 1 → ⊥) → hasText c ≡ false → c ≡ placeM21
+        → u ≡ codeGuess l → a ≡ hostUnitGuess u → a ≡ namedGuess c l
+    host-unit-branch z o i m p e = e ∙ rw (p, longer, ne-eqb c 0 z, ne-eqb c 1 o, i, eq-eqb c placeM21 m)
+
+    pub weight-branch : {h : Head} {f : FieldRead} {u : UnitRead} {a : Answer} → (c ≡ 0 → ⊥) → (c ≡ 1 → ⊥) → hasText c ≡ false → (c ≡ placeM21 → ⊥)
         → h ≡ headGuess l → f ≡ fieldGuess l → u ≡ unitGuess l → a ≡ weightGuess h f u → a ≡ namedGuess c l
-    weight-branch z o i p q r e = e ∙ rw (p, q, r, longer, ne-eqb c 0 z, ne-eqb c 1 o, i)
+    weight-branch z o i m p q r e = e ∙ rw (p, q, r, longer, ne-eqb c 0 z, ne-eqb c 1 o, i, ne-eqb c placeM21 m)

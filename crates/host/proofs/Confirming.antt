@@ -9,10 +9,10 @@ use borrow.Author.Tests.{eqb-true, ltb-true}
 use lib.Dec.{eqb, leb, ltb}
 use lib.ListN.{length, getD, take, drop, length-append}
 use lib.Seq.{getD-append-add, drop-append-add}
-use Rattle.answer.specs.Commands.{nameOf, placeIn, placeOf, commandCount, hasText}
+use Rattle.answer.specs.Commands.{nameOf, placeIn, placeOf, commandCount, hasText, placeM21}
 use Rattle.answer.specs.Lines.{lineEnd, lineOf}
 use Rattle.answer.specs.declared.answer.Answer.{Answer}
-use Rattle.answer.specs.declared.answer.Answer.the-variants.{Nothing, Plain, Weight, ErrorLine, Text, Listed, CommandList, Versions}
+use Rattle.answer.specs.declared.answer.Answer.the-variants.{Nothing, Plain, Weight, ErrorLine, Text, Listed, CommandList, Versions, HostUnit}
 use Rattle.answer.specs.declared.answer.Error.{Error}
 use Rattle.answer.specs.declared.answer.Error.the-variants.{Syntax, Transmission, Logical}
 use Rattle.answer.specs.declared.answer.Head.{Head}
@@ -23,21 +23,22 @@ use Rattle.answer.proofs.Names.{found-name}
 use Rattle.forms.specs.Forms.{plainForm, weightForm, canForm}
 use Rattle.forms.proofs.Forming.{weight-head, text-command}
 use Rattle.forms.proofs.Places.{plain-place, weight-place, text-place, text-width}
-use Rattle.host.specs.Frames.{isEnded, weightFrame, errorFrame, textFrame, listedFrame, frameOf}
-use Rattle.host.specs.Reads.{statusGuess, errorGuess, weightGuess, headGuess, fieldGuess, unitGuess, listedGuess, namedGuess, plainLength, guessed, textPlace, textAt, confirms}
-use Rattle.host.proofs.Frames.{plain-same, weight-same, text-same, listed-same, error-same}
-use Rattle.host.proofs.Shapes.{statusByte, weightRest, quotedEnd, plain-line, weight-line, text-line, listed-line}
+use Rattle.host.specs.Frames.{isEnded, weightFrame, errorFrame, textFrame, listedFrame, hostUnitFrame, frameOf}
+use Rattle.host.specs.Reads.{statusGuess, errorGuess, weightGuess, headGuess, fieldGuess, unitGuess, listedGuess, codeGuess, hostUnitGuess, namedGuess, plainLength, guessed, textPlace, textAt, confirms}
+use Rattle.host.proofs.Frames.{plain-same, weight-same, text-same, listed-same, host-unit-same, error-same}
+use Rattle.host.proofs.Shapes.{statusByte, weightRest, quotedEnd, codeRest, plain-line, weight-line, text-line, listed-line, host-unit-line}
 use Rattle.text.specs.Searching.{beforeSpace, afterSpace, hasSpace}
 use Rattle.text.specs.Ascii.{ascii, sameText}
 use Rattle.text.specs.Field.{fieldOf}
-use Rattle.text.specs.UnitTexts.{unitText, firstNamed, unitNamed}
+use Rattle.text.specs.UnitTexts.{unitText, unitCode, firstMarked, unitNamed, unitCoded}
 use Rattle.text.specs.declared.reading.FieldRead.{FieldRead}
 use Rattle.text.specs.declared.reading.FieldRead.the-variants as fields
 use Rattle.text.specs.declared.unit_texts.UnitRead.{UnitRead}
 use Rattle.text.specs.declared.unit_texts.UnitRead.the-variants.{Named, Unknown}
 use Rattle.weight.specs.declared.units.WeightUnit.{WeightUnit}
+use Rattle.weight.specs.Units.{allUnits}
 use Rattle.weight.proofs.Allowed.{both-left}
-use Rattle.text.proofs.Named.{unit-write-back}
+use Rattle.text.proofs.Named.{unit-write-back, code-write-back}
 use Rattle.text.proofs.Searching.{first-between}
 use Rattle.text.proofs.FieldWidth.{field-length}
 use Rattle.text.proofs.WriteBack.{write-back}
@@ -65,6 +66,11 @@ record ListedOf (l : List ℕ) (last : Bool) (c : ℕ) : Type 0 where
   mark : eqb (getD l 3 0) 65 ≡ last
   name : c ≡ placeOf (take (length l - 11) (drop 8 l))
 
+record HostUnitOf (l : List ℕ) (u : WeightUnit) : Type 0 where
+  spaced : hasSpace l ≡ true
+  place : placeOf (beforeSpace l) ≡ placeM21
+  code : codeGuess l ≡ Named u
+
 abbrev errorByte : Error → ℕ
 errorByte Syntax = 83
 errorByte Transmission = 84
@@ -79,6 +85,7 @@ Of l (Text c) = TextOf l c
 Of l (Listed last c) = ListedOf l last c
 Of l CommandList = Unit
 Of l Versions = Unit
+Of l (HostUnit u) = HostUnitOf l u
 
 module _ (l : List ℕ) where
   error-of : (x y z : Bool) → eqb (getD l 1 0) 83 ≡ x → eqb (getD l 1 0) 84 ≡ y → eqb (getD l 1 0) 76 ≡ z
@@ -93,22 +100,29 @@ module _ (l : List ℕ) where
   weight-of (fields.Number d n) Unknown s e g = tt
   weight-of fields.NoNumber u s e g = tt
 
-  named-of : (p z o i : Bool) → hasSpace l ≡ true → eqb (length l) (plainLength l) ≡ p → eqb (placeOf (beforeSpace l)) 0 ≡ z
+  host-unit-of : (u : UnitRead) → hasSpace l ≡ true → placeOf (beforeSpace l) ≡ placeM21 → codeGuess l ≡ u → Of l (hostUnitGuess u)
+  host-unit-of (Named u) s p e = record { spaced = s; place = p; code = e }
+  host-unit-of Unknown s p e = tt
+
+  named-of : (p z o i m : Bool) → hasSpace l ≡ true → eqb (length l) (plainLength l) ≡ p → eqb (placeOf (beforeSpace l)) 0 ≡ z
+      → eqb (placeOf (beforeSpace l)) placeM21 ≡ m
       → Of l
       (cond p (Plain (headGuess l))
       (cond z (listedGuess l)
       (cond o Versions
-      (cond i (Text (placeOf (beforeSpace l))) (weightGuess (headGuess l) (fieldGuess l) (unitGuess l))))))
-  named-of true z o i s p q = record { spaced = s; size = eqb-true (length l) (plainLength l) p; head = refl }
-  named-of false true o i s p q = record { spaced = s; place = eqb-true (placeOf (beforeSpace l)) 0 q; mark = refl; name = refl }
-  named-of false false true i s p q = tt
-  named-of false false false true s p q = record { spaced = s; place = refl }
-  named-of false false false false s p q = weight-of (fieldGuess l) (unitGuess l) s refl refl
+      (cond i (Text (placeOf (beforeSpace l)))
+      (cond m (hostUnitGuess (codeGuess l)) (weightGuess (headGuess l) (fieldGuess l) (unitGuess l)))))))
+  named-of true z o i m s p q n = record { spaced = s; size = eqb-true (length l) (plainLength l) p; head = refl }
+  named-of false true o i m s p q n = record { spaced = s; place = eqb-true (placeOf (beforeSpace l)) 0 q; mark = refl; name = refl }
+  named-of false false true i m s p q n = tt
+  named-of false false false true m s p q n = record { spaced = s; place = refl }
+  named-of false false false false true s p q n = host-unit-of (codeGuess l) s (eqb-true (placeOf (beforeSpace l)) placeM21 n) refl
+  named-of false false false false false s p q n = weight-of (fieldGuess l) (unitGuess l) s refl refl
 
   spaced-of : (b : Bool) → hasSpace l ≡ b → Of l (cond b (namedGuess (placeOf (beforeSpace l)) l) (errorGuess (getD l 1 0)))
   spaced-of true s =
       let c = placeOf (beforeSpace l) in
-      named-of (eqb (length l) (plainLength l)) (eqb c 0) (eqb c 1) (leb 2 c && leb c 5) s refl refl
+      named-of (eqb (length l) (plainLength l)) (eqb c 0) (eqb c 1) (leb 2 c && leb c 5) (eqb c placeM21) s refl refl refl
   spaced-of false s = error-of (eqb (getD l 1 0) 83) (eqb (getD l 1 0) 84) (eqb (getD l 1 0) 76) refl refl refl
 
   guess-of : Of l (guessed l)
@@ -135,11 +149,20 @@ own-status b s e other =
     by false false false false false false true e1 e2 e3 e4 e5 e6 e7 n = sym (eqb-true b 45 e7)
     by false false false false false false false e1 e2 e3 e4 e5 e6 e7 n = absurd (n refl)
 
--- no text is no unit and no name
+-- no text is no unit, no code and no name
+marked-some : (coded : Bool) (k : ℕ) (v : List ℕ) (u : WeightUnit) → firstMarked coded (take k v) allUnits ≡ Named u → 1 ≤ k
+unfolding firstMarked
+marked-some true zero v u e = let z : _≡_ {A = ℕ} 0 1 = cc in absurd (omega arith)
+marked-some false zero v u e = let z : _≡_ {A = ℕ} 0 1 = cc in absurd (omega arith)
+marked-some coded (suc k) v u e = omega arith
+
 unit-some : (k : ℕ) (v : List ℕ) (u : WeightUnit) → unitNamed (take k v) ≡ Named u → 1 ≤ k
-unfolding unitNamed firstNamed
-unit-some zero v u e = let z : _≡_ {A = ℕ} 0 1 = cc in absurd (omega arith)
-unit-some (suc k) v u e = omega arith
+unfolding unitNamed
+unit-some = marked-some false
+
+code-some : (k : ℕ) (v : List ℕ) (u : WeightUnit) → unitCoded (take k v) ≡ Named u → 1 ≤ k
+unfolding unitCoded
+code-some = marked-some true
 
 name-some : (k : ℕ) (v : List ℕ) → placeOf (take k v) < commandCount → 1 ≤ k
 unfolding placeOf placeIn
@@ -194,7 +217,7 @@ module _ (l : List ℕ) (spaced : hasSpace l ≡ true) where
         let r = afterSpace l in
         let k = length l - (length w + 16) in
         let f = fieldOf (n .decimals) (n .places .0) in
-        let name = head-name (weight-place (h .identification) (h .status) form .1) in
+        let name = head-name (omega (arith, weight-place (h .identification) (h .status) form .1)) in
         let byte = head-byte (λ e. false≢true (rw e at form)) in
         let back = write-back (take 10 (drop (length w + 3) l)) (n .decimals) (n .places .0) field in
         let ten = field-length (n .decimals) (n .places .0) (back .0) in
@@ -236,6 +259,20 @@ module _ (l : List ℕ) (spaced : hasSpace l ≡ true) where
       ∙ listed-same r (nameOf c) last c name (omega arith) (ap (λ (v : List ℕ). eqb (getD v 3 0) 65) (sym line) ∙ mark)
       ∙ sym (ap₂ sameText (listed-line last c t) line)
 
+  host-unit-framed : (u : WeightUnit) (t : List ℕ) → placeOf (beforeSpace l) ≡ placeM21 → codeGuess l ≡ Named u
+      → hostUnitFrame l && isEnded l ≡ sameText (lineOf (HostUnit u) t) l
+  host-unit-framed u t place found =
+      let w = beforeSpace l in
+      let r = afterSpace l in
+      let k = length l - 10 in
+      let name : ascii "M21" ≡ w = ap nameOf (sym place) ∙ found-name w (rw place (omega arith)) in
+      let line : l ≡ ascii "M21" ++ (32 ∷ r) = cut ∙ ap (λ (v : List ℕ). v ++ (32 ∷ r)) (sym name) in
+      let code : take k (drop 4 r) ≡ unitCode u = ap (λ (v : List ℕ). take k (drop 8 v)) (sym line) ∙ code-write-back (take k (drop 8 l)) u found in
+      let some = code-some k (drop 8 l) u found in
+      ap (λ (v : List ℕ). hostUnitFrame v && isEnded v) line
+      ∙ host-unit-same r (unitCode u) k code (omega (arith, some, ap length line))
+      ∙ sym (ap₂ sameText (host-unit-line u t) line)
+
 error-framed : (l t : List ℕ) (e : Error) → getD l 1 0 ≡ errorByte e → errorFrame l && isEnded l ≡ sameText (lineOf (ErrorLine e) t) l
 unfolding lineOf
 error-framed l t Syntax p = error-same l 83 (sym p)
@@ -256,6 +293,7 @@ framed-same (Text c) l g form = text-framed l (g .spaced) c (g .place) (text-com
 framed-same (Listed last c) l g form = listed-framed l (g .spaced) last c [] (g .place) (g .mark) (g .name) (ltb-true c commandCount (both-left (ltb c commandCount) true form))
 framed-same CommandList l g form = let z : _≡_ {A = ℕ} 0 1 = cc in absurd (omega arith)
 framed-same Versions l g form = versions-framed l []
+framed-same (HostUnit u) l g form = host-unit-framed l (g .spaced) u [] (g .place) (g .code)
 
 -- ---- what is used above
 

@@ -11,11 +11,11 @@ use lib.ListN.{length, getD, take, drop, length-append, length-drop, take-append
 use lib.Seq.{getD-append-add, getD-at, drop-drop}
 use Rattle.answer.specs.Commands.{levelOf}
 use Rattle.answer.specs.Lines.{lineEnd}
-use Rattle.host.specs.Frames.{isEnded, weightFrame, errorFrame, quoteFrame, textFrame, listedFrame}
-use Rattle.host.proofs.Shapes.{weightRest, quotedEnd, listedByte}
+use Rattle.host.specs.Frames.{isEnded, weightFrame, errorFrame, quoteFrame, textFrame, listedFrame, hostUnitFrame}
+use Rattle.host.proofs.Shapes.{weightRest, quotedEnd, codeRest, listedByte}
 use Rattle.text.specs.Searching.{beforeSpace}
 use Rattle.weight.specs.Characters.{digit}
-use Rattle.text.specs.Ascii.{sameText}
+use Rattle.text.specs.Ascii.{ascii, sameText}
 use Rattle.text.proofs.Named.{same-is}
 
 -- ---- comparing texts
@@ -211,6 +211,26 @@ listed-same (m ∷ a ∷ d ∷ s ∷ q ∷ v) n last c name h e =
     grouped true true true true false p e = refl
     grouped true true true true true p e = refl
 
+-- A, a space, the zero, a space, the code and the end
+pub host-unit-same : (r u : List ℕ) (k : ℕ) → take k (drop 4 r) ≡ u → length r ≡ k + 6
+    → hostUnitFrame (ascii "M21" ++ (32 ∷ r)) && isEnded (ascii "M21" ++ (32 ∷ r)) ≡ sameText (ascii "M21" ++ (32 ∷ codeRest u)) (ascii "M21" ++ (32 ∷ r))
+host-unit-same [] u k code size = absurd (omega arith)
+host-unit-same (a ∷ []) u k code size = absurd (omega arith)
+host-unit-same (a ∷ s ∷ []) u k code size = absurd (omega arith)
+host-unit-same (a ∷ s ∷ z ∷ []) u k code size = absurd (omega arith)
+host-unit-same (a ∷ s ∷ z ∷ g ∷ v) u k code size =
+    grouped (eqb a 65) (eqb s 32) (eqb z 48) (eqb g 32) (isEnded (ascii "M21" ++ (32 ∷ a ∷ s ∷ z ∷ g ∷ v)))
+    ∙ ap₂ _&&_ (eqb-swap a 65)
+    (ap₂ _&&_ (eqb-swap s 32)
+    (ap₂ _&&_ (eqb-swap z 48)
+    (ap₂ _&&_ (eqb-swap g 32) (known-ended (ascii "M21" ++ (32 ∷ a ∷ s ∷ z ∷ g ∷ [])) u v k code (omega arith)))))
+  where
+    grouped : (x y z w e : Bool) → x && y && z && w && e ≡ x && (y && (z && (w && e)))
+    grouped false y z w e = refl
+    grouped true false z w e = refl
+    grouped true true false w e = refl
+    grouped true true true w e = refl
+
 -- E, the letter and the end
 pub error-same : (l : List ℕ) (b : ℕ) → b ≡ getD l 1 0 → errorFrame l && isEnded l ≡ sameText (69 ∷ b ∷ lineEnd) l
 error-same l b e = by (eqb (length l) 4) refl
@@ -250,3 +270,7 @@ module _ (l : List ℕ) where
   pub listed-is-tested : (last : Bool) (c : ℕ) {m a d v : ℕ} {q : Bool} → m ≡ getD l 3 0 → a ≡ getD l 4 0 → d ≡ getD l 5 0 → v ≡ levelOf c → q ≡ quoteFrame 6 l
       → (last || eqb m 66) && eqb a 32 && eqb d (48 + v) && q ≡ listedFrame last c l
   listed-is-tested last c e p q r s = rw (e, p, q, r, s)
+
+  pub host-unit-is-tested : {a s z g : ℕ} → a ≡ getD l 4 0 → s ≡ getD l 5 0 → z ≡ getD l 6 0 → g ≡ getD l 7 0
+      → eqb a 65 && eqb s 32 && eqb z 48 && eqb g 32 ≡ hostUnitFrame l
+  host-unit-is-tested p q r e = rw (p, q, r, e)

@@ -9,10 +9,10 @@ use borrow.Author.Tests.{eq-eqb, ne-eqb, ltb-true, lt-leb}
 use lib.Dec.{eqb, ltb, leb, lit<}
 use lib.ListN.{length, drop, length-append}
 use lib.Seq.{getD-append-add, drop-append-add, take-append-seam, take-at}
-use Rattle.answer.specs.Commands.{nameOf, levelOf, placeIn, placeOf, commandCount, hasText, placeI0, placeI1, placeI2, placeI5}
+use Rattle.answer.specs.Commands.{nameOf, levelOf, placeIn, placeOf, commandCount, isM21, hasText, placeI0, placeI1, placeI2, placeI5, placeM21}
 use Rattle.answer.specs.Lines.{lineEnd, lineOf}
 use Rattle.answer.specs.declared.answer.Answer.{Answer}
-use Rattle.answer.specs.declared.answer.Answer.the-variants.{Nothing, Plain, Weight, ErrorLine, Text, Listed, CommandList, Versions}
+use Rattle.answer.specs.declared.answer.Answer.the-variants.{Nothing, Plain, Weight, ErrorLine, Text, Listed, CommandList, Versions, HostUnit}
 use Rattle.answer.specs.declared.answer.Error.{Error}
 use Rattle.answer.specs.declared.answer.Error.the-variants.{Syntax, Transmission, Logical}
 use Rattle.answer.specs.declared.answer.Head.{Head}
@@ -21,18 +21,19 @@ use Rattle.answer.proofs.Names.{name-found}
 use Rattle.forms.specs.Forms.{plainForm, weightForm, noText, canForm}
 use Rattle.forms.proofs.Forming.{weight-head, weight-fits, text-command}
 use Rattle.forms.proofs.Places.{plain-place, weight-place, text-place}
-use Rattle.host.specs.Reads.{statusGuess, weightGuess, headGuess, fieldGuess, unitGuess, listedGuess, guessed}
+use Rattle.host.specs.Reads.{statusGuess, weightGuess, headGuess, fieldGuess, unitGuess, listedGuess, codeGuess, hostUnitGuess, guessed}
 use Rattle.host.proofs.Named.{name-unspaced, before-word, word-spaced}
-use Rattle.host.proofs.Shapes.{statusByte, status-back, weightRest, quotedEnd, listedByte, plain-line, weight-line, text-line, listed-line}
+use Rattle.host.proofs.Shapes.{statusByte, status-back, weightRest, quotedEnd, codeRest, listedByte, plain-line, weight-line, text-line, listed-line, host-unit-line}
 use Rattle.text.specs.Searching.{hasSpace}
 use Rattle.weight.specs.Characters.{digit}
 use Rattle.text.specs.Ascii.{ascii}
+use Rattle.weight.specs.declared.units.WeightUnit.{WeightUnit}
 use Rattle.weight.specs.Places.{fitsField}
 use Rattle.text.specs.Field.{fieldOf}
 use Rattle.text.specs.Reading.{readField}
-use Rattle.text.specs.UnitTexts.{unitText, unitNamed}
+use Rattle.text.specs.UnitTexts.{unitText, unitCode, unitNamed}
 use Rattle.weight.proofs.Allowed.{both-left}
-use Rattle.text.proofs.Named.{unit-read-back}
+use Rattle.text.proofs.Named.{unit-read-back, code-read-back}
 use Rattle.text.proofs.ReadBack.{read-back}
 use Rattle.text.proofs.FieldWidth.{field-length}
 
@@ -61,7 +62,8 @@ module _ (w : List ℕ) (none : hasSpace w ≡ false) where
         ≡ cond (eqb (placeOf w) 0) (listedGuess (w ++ (32 ∷ r)))
         (cond (eqb (placeOf w) 1) Versions
         (cond (hasText (placeOf w)) (Text (placeOf w))
-        (weightGuess (headGuess (w ++ (32 ∷ r))) (fieldGuess (w ++ (32 ∷ r))) (unitGuess (w ++ (32 ∷ r))))))
+        (cond (isM21 (placeOf w)) (hostUnitGuess (codeGuess (w ++ (32 ∷ r))))
+        (weightGuess (headGuess (w ++ (32 ∷ r))) (fieldGuess (w ++ (32 ∷ r))) (unitGuess (w ++ (32 ∷ r)))))))
     unfolding guessed
     long-guessed =
         rw (
@@ -117,6 +119,7 @@ module _ (h : Head) where
           ne-eqb c placeI1 (λ e. omega arith),
           lt-leb c placeI5 (omega arith),
           and-false (leb placeI2 c),
+          ne-eqb c placeM21 (λ e. omega arith),
           head-guessed w none b f u ten,
           field-guessed w none b f u ten,
           unit-guessed w none b f u ten,
@@ -130,7 +133,7 @@ module _ (h : Head) where
     guessed-weight t =
         let c = h .identification in
         ap guessed (weight-line h n t fits)
-        ∙ weight-guessed (nameOf c) (name-unspaced c) (name-found c (weight-place c (h .status) form .1))
+        ∙ weight-guessed (nameOf c) (name-unspaced c) (name-found c (omega (arith, weight-place c (h .status) form .1)))
 
 guessed-text : (c : ℕ) (t : List ℕ) → hasText c ≡ true → guessed (lineOf (Text c) t) ≡ Text c
 guessed-text c t e =
@@ -154,6 +157,14 @@ guessed-listed last c t h =
     listed-last true = refl
     listed-last false = refl
 
+guessed-host-unit : (u : WeightUnit) (t : List ℕ) → guessed (lineOf (HostUnit u) t) ≡ HostUnit u
+guessed-host-unit u t =
+    let rest = codeRest (unitCode u) in
+    let code : length (ascii "M21" ++ (32 ∷ rest)) - 10 ≡ length (unitCode u) = omega (arith, length-append (unitCode u) lineEnd) in
+    ap guessed (host-unit-line u t)
+    ∙ long-guessed (ascii "M21") refl rest (omega arith)
+    ∙ rw (name-found placeM21 (lit< tt), code, take-append-seam (unitCode u) lineEnd, code-read-back u)
+
 guessed-versions : (t : List ℕ) → guessed (lineOf Versions t) ≡ Versions
 unfolding guessed lineOf placeOf placeIn
 guessed-versions t = refl
@@ -176,3 +187,4 @@ guessed-back (Text c) t e = guessed-text c t (text-command c t e)
 guessed-back (Listed last c) t e = guessed-listed last c t (ltb-true c commandCount (both-left (ltb c commandCount) (noText t) e))
 guessed-back CommandList t e = let z : _≡_ {A = ℕ} 0 1 = cc in absurd (omega arith)
 guessed-back Versions t e = guessed-versions t
+guessed-back (HostUnit u) t e = guessed-host-unit u t

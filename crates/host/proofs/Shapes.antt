@@ -6,7 +6,7 @@ use mathlib.Core.List.{List, [], _∷_, _++_, append-assoc}
 use Prim.Native.Nat.{ℕ}
 use Rattle.answer.specs.Commands.{nameOf, levelOf}
 use Rattle.answer.specs.Lines.{lineEnd, quoted, statusText, headText, weightText, listedLine, lineOf}
-use Rattle.answer.specs.declared.answer.Answer.the-variants.{Plain, Weight, Text, Listed}
+use Rattle.answer.specs.declared.answer.Answer.the-variants.{Plain, Weight, Text, Listed, HostUnit}
 use Rattle.answer.specs.declared.answer.Head.{Head}
 use Rattle.answer.specs.declared.answer.Number.{Number}
 use Rattle.answer.specs.declared.answer.Status.{Status}
@@ -14,9 +14,10 @@ use Rattle.answer.specs.declared.answer.Status.the-variants.{A, B, S, D, I, L, 
 use Rattle.host.specs.Reads.{statusGuess}
 use Rattle.weight.specs.Characters.{digit}
 use Rattle.text.specs.Ascii.{ascii}
+use Rattle.weight.specs.declared.units.WeightUnit.{WeightUnit}
 use Rattle.weight.specs.Places.{fitsField}
 use Rattle.text.specs.Field.{fieldOf}
-use Rattle.text.specs.UnitTexts.{unitText}
+use Rattle.text.specs.UnitTexts.{unitText, unitCode}
 
 -- ---- a status is one byte, and that byte tells it
 
@@ -100,3 +101,11 @@ pub listed-line : (last : Bool) (c : ℕ) (t : List ℕ)
 unfolding lineOf listedLine
 listed-line true c t = listed-shape 65 (digit (levelOf c)) (nameOf c)
 listed-line false c t = listed-shape 66 (digit (levelOf c)) (nameOf c)
+
+-- what follows the name in M21's answer: A, the zero, the code
+abbrev pub codeRest : List ℕ → List ℕ
+codeRest code = 65 ∷ 32 ∷ 48 ∷ 32 ∷ (code ++ lineEnd)
+
+pub host-unit-line : (u : WeightUnit) (t : List ℕ) → lineOf (HostUnit u) t ≡ ascii "M21" ++ (32 ∷ codeRest (unitCode u))
+unfolding lineOf
+host-unit-line u t = refl

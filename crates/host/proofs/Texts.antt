@@ -12,7 +12,7 @@ use lib.Seq.{drop-append-add, take-append-seam}
 use Rattle.answer.specs.Commands.{nameOf, commandCount}
 use Rattle.answer.specs.Lines.{lineEnd, lineOf}
 use Rattle.answer.specs.declared.answer.Answer.{Answer}
-use Rattle.answer.specs.declared.answer.Answer.the-variants.{Nothing, Plain, Weight, ErrorLine, Text, Listed, CommandList, Versions}
+use Rattle.answer.specs.declared.answer.Answer.the-variants.{Nothing, Plain, Weight, ErrorLine, Text, Listed, CommandList, Versions, HostUnit}
 use Rattle.forms.specs.Forms.{plainForm, weightForm, numberForm, noText, canForm}
 use Rattle.forms.proofs.Forming.{text-command}
 use Rattle.forms.proofs.Places.{text-width}
@@ -40,3 +40,4 @@ text-back (Text c) t e = rw (text-line c t) (text-stands (nameOf c) t (text-widt
 text-back (Listed last c) t e = none-is t (both-right (ltb c commandCount) (noText t) e)
 text-back CommandList t e = let z : _≡_ {A = ℕ} 0 1 = cc in absurd (omega arith)
 text-back Versions t e = none-is t e
+text-back (HostUnit u) t e = none-is t e

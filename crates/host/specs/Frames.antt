@@ -9,7 +9,7 @@ use lib.ListN.{length, getD}
 use Rattle.answer.specs.Commands.{levelOf}
 use Rattle.answer.specs.Lines.{lineOf}
 use Rattle.answer.specs.declared.answer.Answer.{Answer}
-use Rattle.answer.specs.declared.answer.Answer.the-variants.{Nothing, Plain, Weight, ErrorLine, Text, Listed, CommandList, Versions}
+use Rattle.answer.specs.declared.answer.Answer.the-variants.{Nothing, Plain, Weight, ErrorLine, Text, Listed, CommandList, Versions, HostUnit}
 use Rattle.weight.specs.Characters.{quote}
 use Rattle.text.specs.Searching.{beforeSpace}
 use Rattle.weight.specs.Characters.{digit}
@@ -37,6 +37,10 @@ abbrev pub listedFrame : Bool → ℕ → List ℕ → Bool
 listedFrame last c l =
     (last || eqb (getD l 3 0) 66) && eqb (getD l 4 0) 32 && eqb (getD l 5 0) (digit (levelOf c)) && quoteFrame 6 l
 
+-- A, a space, the zero and a space, before the code of M21's answer
+abbrev pub hostUnitFrame : List ℕ → Bool
+hostUnitFrame l = eqb (getD l 4 0) 65 && eqb (getD l 5 0) 32 && eqb (getD l 6 0) 48 && eqb (getD l 7 0) 32
+
 -- what is guessed stands between them
 abbrev pub frameOf : Answer → List ℕ → Bool
 frameOf Nothing l = false
@@ -47,3 +51,4 @@ frameOf (Text c) l = textFrame l && isEnded l
 frameOf (Listed last c) l = listedFrame last c l && isEnded l
 frameOf CommandList l = false
 frameOf Versions l = sameText (lineOf Versions l) l
+frameOf (HostUnit u) l = hostUnitFrame l && isEnded l

@@ -6,10 +6,10 @@ use mathlib.Core.Bool.{Bool, cond, _&&_}
 use mathlib.Core.List.{List}
 use lib.Dec.{eqb}
 use lib.ListN.{length, getD, take, drop}
-use Rattle.answer.specs.Commands.{placeOf, isI0, isI1, hasText}
+use Rattle.answer.specs.Commands.{placeOf, isI0, isI1, isM21, hasText}
 use Rattle.answer.specs.Lines.{lineOf}
 use Rattle.answer.specs.declared.answer.Answer.{Answer}
-use Rattle.answer.specs.declared.answer.Answer.the-variants.{Nothing, Plain, Weight, ErrorLine, Text, Listed, CommandList, Versions}
+use Rattle.answer.specs.declared.answer.Answer.the-variants.{Nothing, Plain, Weight, ErrorLine, Text, Listed, CommandList, Versions, HostUnit}
 use Rattle.answer.specs.declared.answer.Error.the-variants.{Syntax, Transmission, Logical}
 use Rattle.answer.specs.declared.answer.Head.{Head}
 use Rattle.answer.specs.declared.answer.Status.{Status}
@@ -21,7 +21,7 @@ use Rattle.host.specs.declared.reader.ReadText.{ReadText}
 use Rattle.text.specs.Searching.{beforeSpace, hasSpace}
 use Rattle.text.specs.Ascii.{sameText}
 use Rattle.text.specs.Reading.{readField}
-use Rattle.text.specs.UnitTexts.{unitNamed}
+use Rattle.text.specs.UnitTexts.{unitNamed, unitCoded}
 use Rattle.text.specs.declared.reading.FieldRead.{FieldRead}
 use Rattle.text.specs.declared.reading.FieldRead.the-variants.{Number, NoNumber}
 use Rattle.text.specs.declared.unit_texts.UnitRead.{UnitRead}
@@ -67,13 +67,22 @@ unitGuess l = unitNamed (take (length l - (length (beforeSpace l) + 16)) (drop (
 abbrev pub listedGuess : List ℕ → Answer
 listedGuess l = Listed (eqb (getD l 3 0) 65) (placeOf (take (length l - 11) (drop 8 l)))
 
--- a line with a space, by its name's place; I0, I1 and the texts answer by more than a status
+-- the code of M21's answer stands from the ninth byte up to CR LF
+abbrev pub codeGuess : List ℕ → UnitRead
+codeGuess l = unitCoded (take (length l - 10) (drop 8 l))
+
+abbrev pub hostUnitGuess : UnitRead → Answer
+hostUnitGuess (Named u) = HostUnit u
+hostUnitGuess Unknown = Nothing
+
+-- a line with a space, by its name's place; I0, I1, the texts and M21 answer by more than a status
 abbrev pub namedGuess : ℕ → List ℕ → Answer
 namedGuess c l =
     cond (eqb (length l) (plainLength l)) (Plain (headGuess l))
     (cond (isI0 c) (listedGuess l)
     (cond (isI1 c) Versions
-    (cond (hasText c) (Text c) (weightGuess (headGuess l) (fieldGuess l) (unitGuess l)))))
+    (cond (hasText c) (Text c)
+    (cond (isM21 c) (hostUnitGuess (codeGuess l)) (weightGuess (headGuess l) (fieldGuess l) (unitGuess l))))))
 
 unfoldable pub guessed : List ℕ → Answer
 guessed l = cond (hasSpace l) (namedGuess (placeOf (beforeSpace l)) l) (errorGuess (getD l 1 0))
@@ -89,6 +98,7 @@ textPlace (Text c) l = record { start = 6; len = length l - 9 }
 textPlace (Listed last c) l = record { start = 0; len = 0 }
 textPlace CommandList l = record { start = 0; len = 0 }
 textPlace Versions l = record { start = 0; len = 0 }
+textPlace (HostUnit u) l = record { start = 0; len = 0 }
 
 abbrev pub textAt : ReadText → List ℕ → List ℕ
 textAt t l = take (t .len) (drop (t .start) l)

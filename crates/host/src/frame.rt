@@ -3,7 +3,7 @@ ghost use mathlib.Core.Path.{_≡_};
 ghost use Prim.Native.Nat.{_≤_};
 ghost use lib.ListN.{length};
 ghost use Rattle.forms.specs.Forms.{longestLine};
-ghost use Rattle.host.specs.Frames.{isEnded, weightFrame, errorFrame, quoteFrame, textFrame, listedFrame, frameOf};
+ghost use Rattle.host.specs.Frames.{isEnded, weightFrame, errorFrame, quoteFrame, textFrame, listedFrame, hostUnitFrame, frameOf};
 ghost use Rattle.text.specs.Searching.{beforeSpace};
 use crate::scan::left;
 use answer::Answer;
@@ -58,6 +58,16 @@ fn is_listed_framed(line: &[u8], last: bool, command: u8) -> bool
         & is_quoted_from(line, 6)
 }
 
+// A, a space, the zero and a space, before the code.
+fn is_host_unit_framed(line: &[u8]) -> bool
+    ensures { λ r. ⌜ r ≡ hostUnitFrame (now (line .entry)) ⌝ }
+{
+    (byte_at(line, 4) == b'A')
+        & (byte_at(line, 5) == b' ')
+        & (byte_at(line, 6) == b'0')
+        & (byte_at(line, 7) == b' ')
+}
+
 // Whether these bytes are what the answer's line has there.
 pub fn is_framed(answer: Answer, line: &[u8], name: usize) -> bool
     requires { ⌜ length (now line) ≤ longestLine ⌝ }
@@ -74,5 +84,6 @@ pub fn is_framed(answer: Answer, line: &[u8], name: usize) -> bool
         Answer::Listed(last, command) => is_listed_framed(line, last, command) & is_ended(line),
         Answer::CommandList => false,
         Answer::Versions => same_text(b"I1 A \"0\" \"2.30\" \"2.20\"\r\n", line),
+        Answer::HostUnit(_) => is_host_unit_framed(line) & is_ended(line),
     }
 }

@@ -4,7 +4,7 @@ ghost use Prim.Native.Nat.{_≤_};
 ghost use lib.ListN.{length};
 ghost use Rattle.forms.specs.Forms.{longestLine};
 ghost use Rattle.answer.specs.Commands.{placeOf};
-ghost use Rattle.host.specs.Reads.{errorGuess, statusGuess, weightGuess, headGuess, fieldGuess, unitGuess, listedGuess, namedGuess, guessed};
+ghost use Rattle.host.specs.Reads.{errorGuess, statusGuess, weightGuess, headGuess, fieldGuess, unitGuess, listedGuess, codeGuess, hostUnitGuess, namedGuess, guessed};
 ghost use Rattle.text.specs.Searching.{beforeSpace};
 use crate::scan::left;
 use answer::Answer;
@@ -14,6 +14,7 @@ use answer::I0;
 use answer::I1;
 use answer::I2;
 use answer::I5;
+use answer::M21;
 use answer::Number;
 use answer::Status;
 use answer::find_command;
@@ -21,6 +22,7 @@ use text::FieldRead;
 use text::UnitRead;
 use text::byte_at;
 use text::part;
+use text::read_code;
 use text::read_field;
 use text::read_unit;
 
@@ -111,7 +113,24 @@ fn listed_guess(line: &[u8]) -> Answer
     Answer::Listed(byte_at(line, 3) == b'A', command)
 }
 
-// A line with a space. I0, I1 and the texts answer by more than a status.
+// The code of M21's answer: from the ninth byte up to CR LF.
+fn code_guess(line: &[u8]) -> UnitRead
+    ensures { λ r. ⌜ r ≡ codeGuess (now (line .entry)) ⌝ }
+{
+    let size = left(line.len(), 10);
+    read_code(part(line, 8, size))
+}
+
+fn host_unit_guess(code: UnitRead) -> Answer
+    ensures { λ r. ⌜ r ≡ hostUnitGuess code ⌝ }
+{
+    match code {
+        UnitRead::Named(unit) => Answer::HostUnit(unit),
+        UnitRead::Unknown => Answer::Nothing,
+    }
+}
+
+// A line with a space. I0, I1, the texts and M21 answer by more than a status.
 fn named_guess(line: &[u8], name: usize, command: u8) -> Answer
     requires { ⌜ name ≤ longestLine ⌝ }
     requires { ⌜ name ≡ length (beforeSpace (now line)) ⌝ }
@@ -129,6 +148,9 @@ fn named_guess(line: &[u8], name: usize, command: u8) -> Answer
     }
     if (I2 <= command) & (command <= I5) {
         return Answer::Text(command);
+    }
+    if command == M21 {
+        return host_unit_guess(code_guess(line));
     }
     weight_guess(
         head_guess(line, name, command),

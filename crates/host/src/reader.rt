@@ -50,6 +50,7 @@ fn text_place(answer: Answer, line: &[u8]) -> ReadText
         Answer::Listed(_, _) => NO_TEXT,
         Answer::CommandList => NO_TEXT,
         Answer::Versions => NO_TEXT,
+        Answer::HostUnit(_) => NO_TEXT,
     }
 }
 

@@ -1,31 +1,33 @@
--- The parameters of D, TA and SR: each way of the code against the definition.
+-- The parameters of D, TA, SR and M21: each way of the code against the definition.
 -- Assumes nothing.
-use mathlib.Core.Path.{_≡_, sym, ap, _∙_}
+use mathlib.Core.Path.{_≡_, refl, sym, ap, _∙_}
 use mathlib.Core.Bool.{Bool, true, false, _&&_, and-false, and-eq-true-iff}
-use mathlib.Core.List.{List}
+use mathlib.Core.List.{List, [], _∷_}
 use Prim.Native.Nat.{ℕ, _+_, _-_, _≤_, _<_}
 use native.Mathlib.Omega.{arith}
 use lib.Dec.{leb, eqb}
 use lib.ListN.{length, getD, take, drop, length-take, length-drop}
 use lib.Seq.{length-take-le}
 use borrow.Author.Tests.{le-leb, lt-leb, lt-ltb, le-ltb, leb-true}
-use Rattle.answer.specs.Commands.{placeD, placeSR, placeTA}
+use Rattle.answer.specs.Commands.{placeD, placeM21, placeSR, placeTA}
 use Rattle.line.specs.declared.judge.Situation.{Situation}
 use Rattle.line.specs.declared.judge.Verdict.{Verdict}
-use Rattle.line.specs.declared.judge.Verdict.the-variants.{Wrong, Preset, Change, Show}
+use Rattle.line.specs.declared.judge.Verdict.the-variants.{Wrong, Preset, Change, Show, Select}
 use Rattle.text.specs.Printable.{isPrintable}
-use Rattle.line.specs.Judging.{isShown, betweenQuotes, isQuoted, numberIn, presetIn, typedIn, thresholdOf, thresholdIn}
-use Rattle.line.specs.Parts.{showRule, amountRule, presetRule, thresholdRule, changeRule}
+use Rattle.line.specs.Judging.{isShown, betweenQuotes, isQuoted, numberIn, presetIn, typedIn, thresholdOf, thresholdIn, unitIn}
+use Rattle.line.specs.Parts.{showRule, amountRule, presetRule, thresholdRule, changeRule, codeRule, selectRule}
 use Rattle.weight.specs.declared.amount.Tare.{Tare}
 use Rattle.weight.specs.declared.amount.Typed.{Typed}
 use Rattle.weight.specs.declared.amount.Typed.the-variants.{Amount, TooLarge, NotTyped}
 use Rattle.weight.specs.declared.changes.Threshold.{Threshold}
 use Rattle.weight.specs.declared.units.WeightUnit.{WeightUnit}
 use Rattle.weight.specs.Characters.{space}
-use Rattle.text.specs.Ascii.{sameText}
+use Rattle.text.specs.Ascii.{ascii, sameText}
 use Rattle.text.specs.Searching.{FirstAt, afterSpace, hasSpace}
 use Rattle.text.proofs.Searching.{rest-is}
-use Rattle.text.specs.UnitTexts.{unitText}
+use Rattle.text.specs.declared.unit_texts.UnitRead.{UnitRead}
+use Rattle.text.specs.declared.unit_texts.UnitRead.the-variants.{Named, Unknown}
+use Rattle.text.specs.UnitTexts.{unitText, unitCoded}
 use Rattle.text.specs.Typed.{readPreset, readTyped}
 
 -- ---- D
@@ -155,3 +157,34 @@ module _ (j : Situation) (p : List ℕ) {t : List ℕ} {n : Typed} {r : Verdict}
   pub change-read : n ≡ readTyped (j .resolution .unit) t → r ≡ thresholdRule (j .capacity) n → r ≡ changeRule j p
   unfolding changeRule typedIn
   change-read read e = e ∙ ap (thresholdRule (j .capacity)) (read ∙ ap (readTyped (j .resolution .unit)) number)
+
+-- ---- M21
+
+module _ (n : UnitRead) where
+  pub code-known : {u : WeightUnit} → n ≡ Named u → Select u ≡ codeRule n
+  unfolding codeRule
+  code-known told = rw told
+
+  pub code-unknown : n ≡ Unknown → Wrong placeM21 ≡ codeRule n
+  unfolding codeRule
+  code-unknown told = rw told
+
+-- too short for the host unit and a space
+short-prefix : (p : List ℕ) → length p < 2 → sameText (take 2 p) (ascii "0 ") ≡ false
+short-prefix [] h = refl
+short-prefix (a ∷ []) h = and-false (eqb a 48)
+short-prefix (a ∷ b ∷ p) h = absurd (omega arith)
+
+module _ (p : List ℕ) where
+  pub too-short : length p < 2 → Wrong placeM21 ≡ selectRule p
+  unfolding selectRule unitIn codeRule
+  too-short h = rw (short-prefix p h)
+
+  module _ {same : Bool} (known : same ≡ sameText (take 2 p) (48 ∷ 32 ∷ [])) where
+    pub other-place : same ≡ false → Wrong placeM21 ≡ selectRule p
+    unfolding selectRule unitIn codeRule
+    other-place e = rw (sym known ∙ e)
+
+    pub code-read : {n : UnitRead} {r : Verdict} → same ≡ true → n ≡ unitCoded (take (length p - 2) (drop 2 p)) → r ≡ codeRule n → r ≡ selectRule p
+    unfolding selectRule unitIn
+    code-read e read f = f ∙ ap codeRule (read ∙ ap unitCoded (rest-is 2 p)) ∙ rw (sym known ∙ e)

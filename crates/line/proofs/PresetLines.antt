@@ -25,7 +25,7 @@ use Rattle.text.proofs.TypedText.{typed-decimal}
 use Rattle.weight.specs.declared.amount.Tare.{Tare}
 use Rattle.weight.specs.declared.amount.Typed.the-variants.{Amount}
 use Rattle.weight.specs.declared.units.WeightUnit.{WeightUnit}
-use Rattle.weight.specs.declared.units.WeightUnit.the-variants.{G, Mg, Ct, Oz, Ozt, Gn, Dwt}
+use Rattle.weight.specs.declared.units.WeightUnit.the-variants.{G, Mg, Ct, Oz, Ozt, Gn, Dwt, Kg, Lb}
 use Rattle.weight.specs.Characters.{space}
 use Rattle.weight.proofs.Allowed.{both-left}
 use Rattle.line.proofs.Verdicts.{GoodLine}
@@ -68,6 +68,8 @@ unit-bytes Oz = record { few = omega arith; plain = refl }
 unit-bytes Ozt = record { few = omega arith; plain = refl }
 unit-bytes Gn = record { few = omega arith; plain = refl }
 unit-bytes Dwt = record { few = omega arith; plain = refl }
+unit-bytes Kg = record { few = omega arith; plain = refl }
+unit-bytes Lb = record { few = omega arith; plain = refl }
 
 number-found : (u : WeightUnit) (x : List ℕ) → Apart x (unitText u) → numberIn u (x ++ (space ∷ unitText u)) ≡ x
 unfolding numberIn

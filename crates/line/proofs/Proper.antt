@@ -11,7 +11,7 @@ use borrow.Author.Tests.{le-ltb}
 use Rattle.answer.specs.Commands.{commandCount, needsSample, placeD, placeReset}
 use Rattle.line.specs.declared.judge.Situation.{Situation}
 use Rattle.line.specs.declared.judge.Verdict.{Verdict}
-use Rattle.line.specs.declared.judge.Verdict.the-variants.{Erroneous, Reset, Busy, Wrong, NoSample, Run, Preset, Change, Show}
+use Rattle.line.specs.declared.judge.Verdict.the-variants.{Erroneous, Reset, Busy, Wrong, NoSample, Run, Preset, Change, Show, Select}
 use Rattle.line.specs.declared.receive.Line.{Line}
 use Rattle.line.specs.Judging.{judgement}
 use Rattle.line.specs.Receiving.{contentOf, lineLimit}
@@ -57,6 +57,7 @@ RuledBy (Run c) = Ruled c
 RuledBy (Preset m) = Unit
 RuledBy (Change t) = Unit
 RuledBy (Show n) = Unit
+RuledBy (Select u) = Unit
 
 pub verdict-ruled : (j : Situation) (f : List Marked) (v : Verdict) → judgementOf j f ≡ v → RuledBy v
 verdict-ruled j f (Erroneous e) h = tt
@@ -68,6 +69,7 @@ verdict-ruled j f (Run c) h = run-may j f h .ruled
 verdict-ruled j f (Preset m) h = tt
 verdict-ruled j f (Change t) h = tt
 verdict-ruled j f (Show n) h = tt
+verdict-ruled j f (Select u) h = tt
 
 -- ---- a verdict on the line l
 
@@ -81,6 +83,7 @@ Proper j l (Run c) = RunMay j c
 Proper j l (Preset m) = m .0 ≤ j .capacity
 Proper j l (Change t) = t .0 ≤ j .capacity
 Proper j l (Show n) = Shown l n
+Proper j l (Select u) = Unit
 
 module _ (j : Situation) (f : List Marked) (l : Line) (held : Holds l f) where
   pub verdict-proper : (v : Verdict) → judgementOf j f ≡ v → Proper j l v
@@ -93,6 +96,7 @@ module _ (j : Situation) (f : List Marked) (l : Line) (held : Holds l f) where
   verdict-proper (Preset m) h = preset-line j f h .within
   verdict-proper (Change t) h = change-line j f h .within
   verdict-proper (Show n) h = show-cells j l f n held (show-line j f h)
+  verdict-proper (Select u) h = tt
 
 -- ---- the cells alone
 

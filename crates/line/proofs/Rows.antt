@@ -10,14 +10,14 @@ use lib.ListN.{length, take, drop}
 use lib.Seq.{take-all, length-take-le}
 use borrow.Author.Tests.{lt-ltb, le-ltb, leb-true, leb-false, eq-eqb, ne-eqb}
 use Rattle.answer.specs.declared.answer.Error.the-variants.{Syntax, Transmission, Logical}
-use Rattle.answer.specs.Commands.{commandCount, names, needsSample, placeD, placeOf, placeReset, placeSR, placeTA, takesParameters}
+use Rattle.answer.specs.Commands.{commandCount, names, needsSample, placeD, placeM21, placeOf, placeReset, placeSR, placeTA, takesParameters}
 use Rattle.line.specs.declared.receive.Line.{Line}
 use Rattle.line.specs.declared.judge.Situation.{Situation}
 use Rattle.line.specs.declared.judge.Verdict.{Verdict}
-use Rattle.line.specs.declared.judge.Verdict.the-variants.{Erroneous, Reset, Busy, Wrong, NoSample, Run, Preset, Change, Show}
+use Rattle.line.specs.declared.judge.Verdict.the-variants.{Erroneous, Reset, Busy, Wrong, NoSample, Run, Preset, Change, Show, Select}
 use Rattle.line.specs.Receiving.{contentOf, lineLimit}
-use Rattle.line.specs.Judging.{hasControl, commandIn, isQuoted, presetIn, typedIn, amountIn, thresholdIn, isPreset, isThreshold, isWrong, ownRule, judgement}
-use Rattle.line.specs.Parts.{showRule, amountRule, presetRule, thresholdRule, changeRule, lastRows, textRows}
+use Rattle.line.specs.Judging.{hasControl, commandIn, isQuoted, presetIn, typedIn, amountIn, thresholdIn, unitIn, isCoded, unitOf, isPreset, isThreshold, isWrong, ownRule, judgement}
+use Rattle.line.specs.Parts.{showRule, amountRule, presetRule, thresholdRule, changeRule, codeRule, selectRule, lastRows, textRows}
 use Rattle.weight.specs.Characters.{space}
 use Rattle.text.specs.Searching.{FirstAt, afterSpace, hasSpace}
 use Rattle.text.proofs.Searching.{rest-is}
@@ -46,7 +46,7 @@ module _ (j : Situation) (c : ℕ) (t : List ℕ) (i : ℕ) (at : FirstAt space 
   pub show-parameter : {r : Verdict} → c ≡ placeD → i < length t → r ≡ showRule (take (length t - (i + 1)) (drop (i + 1) t))
       → r ≡ lastRows j c t
   unfolding showRule lastRows isWrong ownRule
-  show-parameter e h f = f ∙ ap showRule after ∙ rw (e, has h) (rw (or-false (not (isQuoted (afterSpace t))), or-false (not (isQuoted (afterSpace t)))) (opposite (isQuoted (afterSpace t)) (Show (length (afterSpace t) - 2)) (Wrong placeD)))
+  show-parameter e h f = f ∙ ap showRule after ∙ rw (e, has h) (rw (or-false (not (isQuoted (afterSpace t))), or-false (not (isQuoted (afterSpace t))), or-false (not (isQuoted (afterSpace t)))) (opposite (isQuoted (afterSpace t)) (Show (length (afterSpace t) - 2)) (Wrong placeD)))
 
   pub show-nothing : c ≡ placeD → length t ≤ i → Wrong placeD ≡ lastRows j c t
   unfolding lastRows isWrong
@@ -55,7 +55,7 @@ module _ (j : Situation) (c : ℕ) (t : List ℕ) (i : ℕ) (at : FirstAt space 
   pub preset-parameter : {r : Verdict} → c ≡ placeTA → i < length t → r ≡ presetRule j (take (length t - (i + 1)) (drop (i + 1) t))
       → r ≡ lastRows j c t
   unfolding presetRule amountRule lastRows isWrong ownRule
-  preset-parameter e h f = f ∙ ap (presetRule j) after ∙ rw (e, has h) (rw (or-false (not (isPreset j (afterSpace t)))) (opposite (isPreset j (afterSpace t)) (Preset (amountIn (presetIn j (afterSpace t)))) (Wrong placeTA)))
+  preset-parameter e h f = f ∙ ap (presetRule j) after ∙ rw (e, has h) (rw (or-false (not (isPreset j (afterSpace t))), or-false (not (isPreset j (afterSpace t)))) (opposite (isPreset j (afterSpace t)) (Preset (amountIn (presetIn j (afterSpace t)))) (Wrong placeTA)))
 
   pub preset-asked : c ≡ placeTA → length t ≤ i → Run placeTA ≡ lastRows j c t
   unfolding lastRows isWrong ownRule
@@ -64,20 +64,30 @@ module _ (j : Situation) (c : ℕ) (t : List ℕ) (i : ℕ) (at : FirstAt space 
   pub change-parameter : {r : Verdict} → c ≡ placeSR → i < length t → r ≡ changeRule j (take (length t - (i + 1)) (drop (i + 1) t))
       → r ≡ lastRows j c t
   unfolding changeRule thresholdRule lastRows isWrong ownRule
-  change-parameter e h f = f ∙ ap (changeRule j) after ∙ rw (e, has h) (opposite (isThreshold j (afterSpace t)) (Change (thresholdIn (typedIn j (afterSpace t)))) (Wrong placeSR))
+  change-parameter e h f = f ∙ ap (changeRule j) after ∙ rw (e, has h) (rw (or-false (not (isThreshold j (afterSpace t)))) (opposite (isThreshold j (afterSpace t)) (Change (thresholdIn (typedIn j (afterSpace t)))) (Wrong placeSR)))
 
   pub change-asked : c ≡ placeSR → length t ≤ i → Run placeSR ≡ lastRows j c t
   unfolding lastRows isWrong ownRule
   change-asked e h = rw (e, has-not h)
 
-  module _ (d : c ≡ placeD → ⊥) (ta : c ≡ placeTA → ⊥) (sr : c ≡ placeSR → ⊥) {lacks : Bool} (known : lacks ≡ (needsSample c && not (j .sampled))) where
+  pub select-parameter : {r : Verdict} → c ≡ placeM21 → i < length t → r ≡ selectRule (take (length t - (i + 1)) (drop (i + 1) t))
+      → r ≡ lastRows j c t
+  unfolding selectRule codeRule lastRows isWrong ownRule
+  select-parameter e h f =
+      f ∙ ap selectRule after ∙ rw (e, has h) (opposite (isCoded (unitIn (afterSpace t))) (Select (unitOf (unitIn (afterSpace t)))) (Wrong placeM21))
+
+  pub select-asked : c ≡ placeM21 → length t ≤ i → Run placeM21 ≡ lastRows j c t
+  unfolding lastRows isWrong ownRule
+  select-asked e h = rw (e, has-not h)
+
+  module _ (d : c ≡ placeD → ⊥) (ta : c ≡ placeTA → ⊥) (sr : c ≡ placeSR → ⊥) (m : c ≡ placeM21 → ⊥) {lacks : Bool} (known : lacks ≡ (needsSample c && not (j .sampled))) where
     pub no-sample : lacks ≡ true → NoSample c ≡ lastRows j c t
     unfolding lastRows isWrong
-    no-sample e = rw (ne-eqb c placeD d, ne-eqb c placeTA ta, ne-eqb c placeSR sr, rw known at e)
+    no-sample e = rw (ne-eqb c placeD d, ne-eqb c placeTA ta, ne-eqb c placeSR sr, ne-eqb c placeM21 m, rw known at e)
 
     pub runs : lacks ≡ false → Run c ≡ lastRows j c t
     unfolding lastRows isWrong ownRule
-    runs e = rw (ne-eqb c placeD d, ne-eqb c placeTA ta, ne-eqb c placeSR sr, rw known at e)
+    runs e = rw (ne-eqb c placeD d, ne-eqb c placeTA ta, ne-eqb c placeSR sr, ne-eqb c placeM21 m, rw known at e)
 
 -- ---- the whole table
 

@@ -9,16 +9,16 @@ use lib.Dec.{leb, ltb}
 use lib.ListN.{length, take, drop, length-map, length-take, length-drop}
 use lib.Seq.{take-take}
 use borrow.Author.Tests.{eqb-true, eqb-false, leb-true, leb-false, ltb-false, not-true, not-false}
-use Rattle.answer.specs.Commands.{commandCount, isD, isReset, isSR, isTA, nameOf, names, needsSample, placeD, placeIn, placeOf, placeReset, placeSR, placeTA, takesParameters}
+use Rattle.answer.specs.Commands.{commandCount, isD, isM21, isReset, isSR, isTA, nameOf, names, needsSample, placeD, placeIn, placeM21, placeOf, placeReset, placeSR, placeTA, takesParameters}
 use Rattle.answer.proofs.Rows.{parameters-are}
 use Rattle.answer.proofs.Names.{found-name}
 use Rattle.line.specs.declared.receive.Line.{Line}
 use Rattle.line.specs.declared.judge.Situation.{Situation}
 use Rattle.line.specs.declared.judge.Verdict.{Verdict}
-use Rattle.line.specs.declared.judge.Verdict.the-variants.{Erroneous, Reset, Busy, Wrong, NoSample, Run, Preset, Change, Show}
+use Rattle.line.specs.declared.judge.Verdict.the-variants.{Erroneous, Reset, Busy, Wrong, NoSample, Run, Preset, Change, Show, Select}
 use Rattle.text.specs.Searching.{beforeSpace, afterSpace, hasSpace}
 use Rattle.text.specs.Printable.{isPrintable}
-use Rattle.line.specs.Judging.{hasControl, commandIn, isShown, betweenQuotes, isQuoted, numberIn, presetIn, typedIn, presetOf, amountIn, thresholdOf, thresholdIn, isPreset, isThreshold, isWrong, ownRule, firstRow, judgement}
+use Rattle.line.specs.Judging.{hasControl, commandIn, isShown, betweenQuotes, isQuoted, numberIn, presetIn, typedIn, presetOf, amountIn, thresholdOf, thresholdIn, unitIn, isCoded, unitOf, isPreset, isThreshold, isWrong, ownRule, firstRow, judgement}
 use Rattle.line.specs.Receiving.{contentOf, lineLimit}
 use Rattle.line.specs.Unbounded.{Marked, byteIn, anyFaulty, judgementOf}
 use Rattle.line.proofs.Kept.{Holds}
@@ -30,6 +30,8 @@ use Rattle.weight.specs.declared.amount.Typed.the-variants.{Amount, TooLarge, N
 use Rattle.weight.specs.declared.changes.Threshold.{Threshold}
 use Rattle.weight.specs.Characters.{space}
 use Rattle.text.specs.Ascii.{ascii, sameText}
+use Rattle.text.specs.declared.unit_texts.UnitRead.{UnitRead}
+use Rattle.text.specs.declared.unit_texts.UnitRead.the-variants.{Named, Unknown}
 use Rattle.text.specs.UnitTexts.{unitText}
 use Rattle.text.specs.Reading.{isDecimal}
 use Rattle.text.specs.Typed.{isTyped, readPreset, readTyped}
@@ -54,22 +56,24 @@ isOwn (Run c) = true
 isOwn (Preset m) = true
 isOwn (Change t) = true
 isOwn (Show n) = true
+isOwn (Select u) = true
 
 -- row 8 by its tests
-abbrev chosen : Bool → Bool → Bool → ℕ → Tare → Threshold → ℕ → Verdict
-chosen d ta sr n m t c = cond d (Show n) (cond ta (Preset m) (cond sr (Change t) (Run c)))
+abbrev chosen : Bool → Bool → Bool → Bool → ℕ → Tare → Threshold → WeightUnit → ℕ → Verdict
+chosen d ta sr se n m t u c = cond d (Show n) (cond ta (Preset m) (cond sr (Change t) (cond se (Select u) (Run c))))
 
-own-by : (d ta sr : Bool) (n : ℕ) (m : Tare) (t : Threshold) (c : ℕ) → isOwn (chosen d ta sr n m t c) ≡ true
-own-by true ta sr n m t c = refl
-own-by false true sr n m t c = refl
-own-by false false true n m t c = refl
-own-by false false false n m t c = refl
+own-by : (d ta sr se : Bool) (n : ℕ) (m : Tare) (t : Threshold) (u : WeightUnit) (c : ℕ) → isOwn (chosen d ta sr se n m t u c) ≡ true
+own-by true ta sr se n m t u c = refl
+own-by false true sr se n m t u c = refl
+own-by false false true se n m t u c = refl
+own-by false false false true n m t u c = refl
+own-by false false false false n m t u c = refl
 
 own-is : (j : Situation) (c : ℕ) (t : List ℕ) → isOwn (ownRule j c t) ≡ true
 unfolding ownRule
 own-is j c t =
-    own-by (isD c) (isTA c && hasSpace t) (isSR c && hasSpace t) (length (afterSpace t) - 2) (amountIn (presetIn j (afterSpace t)))
-    (thresholdIn (typedIn j (afterSpace t))) c
+    own-by (isD c) (isTA c && hasSpace t) (isSR c && hasSpace t) (isM21 c && hasSpace t) (length (afterSpace t) - 2) (amountIn (presetIn j (afterSpace t)))
+    (thresholdIn (typedIn j (afterSpace t))) (unitOf (unitIn (afterSpace t))) c
 
 -- rows 1 to 3 do not apply
 record Known (faulty unknown extra : Bool) : Type 0 where
@@ -123,6 +127,7 @@ isKept (Run c) = false
 isKept (Preset m) = false
 isKept (Change t) = false
 isKept (Show n) = false
+isKept (Select u) = false
 
 abbrev keptFrom : Verdict → ℕ
 keptFrom (Erroneous e) = 0
@@ -134,6 +139,7 @@ keptFrom (Run c) = 0
 keptFrom (Preset m) = 0
 keptFrom (Change t) = 0
 keptFrom (Show n) = 0
+keptFrom (Select u) = 0
 
 abbrev keptBy : Verdict → Bool → Bool → Bool → Bool
 keptBy (Erroneous e) w g n = false
@@ -145,6 +151,7 @@ keptBy (Run c) w g n = false
 keptBy (Preset m) w g n = false
 keptBy (Change t) w g n = false
 keptBy (Show n′) w g n = false
+keptBy (Select u) w g n = false
 
 own-not-kept : (v : Verdict) → isOwn v ≡ true → isKept v ≡ false
 own-not-kept (Erroneous e) o = never (cc)
@@ -156,6 +163,7 @@ own-not-kept (Run c) o = refl
 own-not-kept (Preset m) o = refl
 own-not-kept (Change t) o = refl
 own-not-kept (Show n) o = refl
+own-not-kept (Select u) o = refl
 
 record Kept (faulty unknown extra reset waiting wrong missing : Bool) (c : ℕ) (v : Verdict) : Type 0 where
   known : Known faulty unknown extra
@@ -240,6 +248,12 @@ pub record ChangeLine (j : Situation) (f : List Marked) (t : Threshold) : Type 0
   pub within : t .0 ≤ j .capacity
   pub free : j .waiting ≡ false
 
+-- a line judged to M21 with the code of u
+pub record SelectLine (j : Situation) (f : List Marked) (u : WeightUnit) : Type 0 where
+  pub line : GoodLine f (ascii "M21 " ++ parameterIn f)
+  pub unit : unitIn (parameterIn f) ≡ Named u
+  pub free : j .waiting ≡ false
+
 -- a line judged to D with a text of n bytes, from its fourth on
 pub record ShowLine (j : Situation) (f : List Marked) (n : ℕ) : Type 0 where
   pub line : GoodLine f (ascii "D " ++ parameterIn f)
@@ -283,44 +297,59 @@ no-space true true e a = never (cc)
 no-space true false e a = never (cc)
 no-space false takes e a = refl
 
-nothing-after : (h d sr ta : Bool) → d ≡ false → (ta && h) ≡ false → (sr && h) ≡ false → (h && not (d || sr || ta)) ≡ false → h ≡ false
-nothing-after true d sr true e a s b = never (cc)
-nothing-after true d true false e a s b = never (cc)
-nothing-after true d false false e a s b = never (cc)
-nothing-after false d sr ta e a s b = refl
+nothing-after : (h d sr ta se : Bool) → d ≡ false → (ta && h) ≡ false → (sr && h) ≡ false → (se && h) ≡ false
+    → (h && not (d || sr || ta || se)) ≡ false → h ≡ false
+nothing-after true d sr true se e a s m b = never (cc)
+nothing-after true d true false se e a s m b = never (cc)
+nothing-after true d false false true e a s m b = never (cc)
+nothing-after true d false false false e a s m b = never (cc)
+nothing-after false d sr ta se e a s m b = refl
 
 -- what row 8 gave
-run-by : (d ta sr : Bool) (n : ℕ) (m : Tare) (t : Threshold) (c k : ℕ) → chosen d ta sr n m t c ≡ Run k
-    → (d ≡ false) × (ta ≡ false) × (sr ≡ false) × (c ≡ k)
-run-by true ta sr n m t c k e = never (cc)
-run-by false true sr n m t c k e = never (cc)
-run-by false false true n m t c k e = never (cc)
-run-by false false false n m t c k e = (refl, refl, refl, cc)
+run-by : (d ta sr se : Bool) (n : ℕ) (m : Tare) (t : Threshold) (u : WeightUnit) (c k : ℕ) → chosen d ta sr se n m t u c ≡ Run k
+    → (d ≡ false) × (ta ≡ false) × (sr ≡ false) × (se ≡ false) × (c ≡ k)
+run-by true ta sr se n m t u c k e = never (cc)
+run-by false true sr se n m t u c k e = never (cc)
+run-by false false true se n m t u c k e = never (cc)
+run-by false false false true n m t u c k e = never (cc)
+run-by false false false false n m t u c k e = (refl, refl, refl, refl, cc)
 
-preset-by : (d ta sr : Bool) (n : ℕ) (m : Tare) (t : Threshold) (c : ℕ) (p : Tare) → chosen d ta sr n m t c ≡ Preset p → (ta ≡ true) × (m ≡ p)
-preset-by true ta sr n m t c p e = never (cc)
-preset-by false true sr n m t c p e = (refl, cc)
-preset-by false false true n m t c p e = never (cc)
-preset-by false false false n m t c p e = never (cc)
+preset-by : (d ta sr se : Bool) (n : ℕ) (m : Tare) (t : Threshold) (u : WeightUnit) (c : ℕ) (p : Tare) → chosen d ta sr se n m t u c ≡ Preset p → (ta ≡ true) × (m ≡ p)
+preset-by true ta sr se n m t u c p e = never (cc)
+preset-by false true sr se n m t u c p e = (refl, cc)
+preset-by false false true se n m t u c p e = never (cc)
+preset-by false false false true n m t u c p e = never (cc)
+preset-by false false false false n m t u c p e = never (cc)
 
-change-by : (d ta sr : Bool) (n : ℕ) (m : Tare) (t : Threshold) (c : ℕ) (p : Threshold) → chosen d ta sr n m t c ≡ Change p → (sr ≡ true) × (t ≡ p)
-change-by true ta sr n m t c p e = never (cc)
-change-by false true sr n m t c p e = never (cc)
-change-by false false true n m t c p e = (refl, cc)
-change-by false false false n m t c p e = never (cc)
+change-by : (d ta sr se : Bool) (n : ℕ) (m : Tare) (t : Threshold) (u : WeightUnit) (c : ℕ) (p : Threshold) → chosen d ta sr se n m t u c ≡ Change p → (sr ≡ true) × (t ≡ p)
+change-by true ta sr se n m t u c p e = never (cc)
+change-by false true sr se n m t u c p e = never (cc)
+change-by false false true se n m t u c p e = (refl, cc)
+change-by false false false true n m t u c p e = never (cc)
+change-by false false false false n m t u c p e = never (cc)
 
-show-by : (d ta sr : Bool) (n : ℕ) (m : Tare) (t : Threshold) (c k : ℕ) → chosen d ta sr n m t c ≡ Show k → (d ≡ true) × (n ≡ k)
-show-by true ta sr n m t c k e = (refl, cc)
-show-by false true sr n m t c k e = never (cc)
-show-by false false true n m t c k e = never (cc)
-show-by false false false n m t c k e = never (cc)
+show-by : (d ta sr se : Bool) (n : ℕ) (m : Tare) (t : Threshold) (u : WeightUnit) (c k : ℕ) → chosen d ta sr se n m t u c ≡ Show k → (d ≡ true) × (n ≡ k)
+show-by true ta sr se n m t u c k e = (refl, cc)
+show-by false true sr se n m t u c k e = never (cc)
+show-by false false true se n m t u c k e = never (cc)
+show-by false false false true n m t u c k e = never (cc)
+show-by false false false false n m t u c k e = never (cc)
+
+select-by : (d ta sr se : Bool) (n : ℕ) (m : Tare) (t : Threshold) (u : WeightUnit) (c : ℕ) (v : WeightUnit) → chosen d ta sr se n m t u c ≡ Select v
+    → (se ≡ true) × (u ≡ v)
+select-by true ta sr se n m t u c v e = never (cc)
+select-by false true sr se n m t u c v e = never (cc)
+select-by false false true se n m t u c v e = never (cc)
+select-by false false false true n m t u c v e = (refl, cc)
+select-by false false false false n m t u c v e = never (cc)
 
 -- wrong parameters are those of a name that takes some
-wrong-takes : (d sr ta x y z : Bool) → (d && x || ta && y || sr && z) ≡ true → (d || sr || ta) ≡ true
-wrong-takes true sr ta x y z e = refl
-wrong-takes false true ta x y z e = refl
-wrong-takes false false true x y z e = refl
-wrong-takes false false false x y z e = never (cc)
+wrong-takes : (d sr ta se x y z v : Bool) → (d && x || ta && y || sr && z || se && v) ≡ true → (d || sr || ta || se) ≡ true
+wrong-takes true sr ta se x y z v e = refl
+wrong-takes false true ta se x y z v e = refl
+wrong-takes false false true se x y z v e = refl
+wrong-takes false false false true x y z v e = refl
+wrong-takes false false false false x y z v e = never (cc)
 
 -- D with right parameters: the space after it, and the text between quotes
 record Showing (c : ℕ) (t : List ℕ) (n : ℕ) : Type 0 where
@@ -332,12 +361,13 @@ record Showing (c : ℕ) (t : List ℕ) (n : ℕ) : Type 0 where
 showing : (j : Situation) (c n : ℕ) (t : List ℕ) → isWrong j c t ≡ false → ownRule j c t ≡ Show n → Showing c t n
 unfolding ownRule isWrong
 showing j c n t right own =
-    let by = show-by (isD c) (isTA c && hasSpace t) (isSR c && hasSpace t) (length (afterSpace t) - 2) (amountIn (presetIn j (afterSpace t)))
-    (thresholdIn (typedIn j (afterSpace t))) c n own in
+    let by = show-by (isD c) (isTA c && hasSpace t) (isSR c && hasSpace t) (isM21 c && hasSpace t) (length (afterSpace t) - 2) (amountIn (presetIn j (afterSpace t)))
+    (thresholdIn (typedIn j (afterSpace t))) (unitOf (unitIn (afterSpace t))) c n own in
     let is : c ≡ placeD = eqb-true c placeD (by .0) in
     let fine : (hasSpace t && isQuoted (afterSpace t)) ≡ true =
     not-false (hasSpace t && isQuoted (afterSpace t)) (neither-left (not (hasSpace t && isQuoted (afterSpace t))) false
-    (neither-left (not (hasSpace t && isQuoted (afterSpace t)) || false) false (rw is at right))) in
+    (neither-left (not (hasSpace t && isQuoted (afterSpace t)) || false) false
+    (neither-left (not (hasSpace t && isQuoted (afterSpace t)) || false || false) false (rw is at right)))) in
     let both = and-eq-true-iff (hasSpace t) (isQuoted (afterSpace t)) .0 fine in
     record { is = is; spaced = both .0; quotes = shown-between (afterSpace t) (both .1); count = by .1 }
 
@@ -356,7 +386,12 @@ threshold-by capacity (Amount m) e =
 threshold-by capacity TooLarge e = never (cc)
 threshold-by capacity NotTyped e = never (cc)
 
--- a parameter with a number: number, space, the profile's unit
+-- a code that is known
+coded-by : (n : UnitRead) → isCoded n ≡ true → n ≡ Named (unitOf n)
+coded-by (Named u) e = refl
+coded-by Unknown e = never (cc)
+
+-- a parameter with a number: number, space, the unit in force
 record Numbered (u : WeightUnit) (p : List ℕ) : Type 0 where
   parts : p ≡ beforeSpace p ++ (space ∷ unitText u)
   unit : afterSpace p ≡ unitText u
@@ -418,17 +453,17 @@ module _ (j : Situation) (f : List Marked) where
   run-line {k} e =
       let row = last refl e in
       let b : Begins f = begins f (row .known) in
-      let by = run-by (isD c) (isTA c && hasSpace (map byteIn f)) (isSR c && hasSpace (map byteIn f)) (length (parameterIn f) - 2)
-      (amountIn (presetIn j (parameterIn f))) (thresholdIn (typedIn j (parameterIn f))) c k (row .own-rule) in
+      let by = run-by (isD c) (isTA c && hasSpace (map byteIn f)) (isSR c && hasSpace (map byteIn f)) (isM21 c && hasSpace (map byteIn f)) (length (parameterIn f) - 2)
+      (amountIn (presetIn j (parameterIn f))) (thresholdIn (typedIn j (parameterIn f))) (unitOf (unitIn (parameterIn f))) c k (row .own-rule) in
       let single : hasSpace (map byteIn f) ≡ false =
-      nothing-after (hasSpace (map byteIn f)) (isD c) (isSR c) (isTA c) (by .0) (by .1) (by .2) (rw (← (parameters-are c)) at (b .alone)) in
+      nothing-after (hasSpace (map byteIn f)) (isD c) (isSR c) (isTA c) (isM21 c) (by .0) (by .1) (by .2) (by .3) (rw (← (parameters-are c)) at (b .alone)) in
       record {
-        line = record { bytes = name-alone (map byteIn f) (b .a-name) single ∙ ap nameOf (by .3); good = b .good };
-        a-name = rw (by .3) at (b .a-name);
-        no-reset = rw (by .3) at (eqb-false c placeReset (row .no-reset));
-        no-show = rw (by .3) at (eqb-false c placeD (by .0));
+        line = record { bytes = name-alone (map byteIn f) (b .a-name) single ∙ ap nameOf (by .4); good = b .good };
+        a-name = rw (by .4) at (b .a-name);
+        no-reset = rw (by .4) at (eqb-false c placeReset (row .no-reset));
+        no-show = rw (by .4) at (eqb-false c placeD (by .0));
         free = row .free;
-        has-sample = rw (by .3) at (row .sampled);
+        has-sample = rw (by .4) at (row .sampled);
       }
 
   -- ---- TA with a number
@@ -438,12 +473,13 @@ module _ (j : Situation) (f : List Marked) where
   preset-line {m} e =
       let row = last refl e in
       let b : Begins f = begins f (row .known) in
-      let by = preset-by (isD c) (isTA c && hasSpace (map byteIn f)) (isSR c && hasSpace (map byteIn f)) (length (parameterIn f) - 2)
-      (amountIn (presetIn j (parameterIn f))) (thresholdIn (typedIn j (parameterIn f))) c m (row .own-rule) in
+      let by = preset-by (isD c) (isTA c && hasSpace (map byteIn f)) (isSR c && hasSpace (map byteIn f)) (isM21 c && hasSpace (map byteIn f)) (length (parameterIn f) - 2)
+      (amountIn (presetIn j (parameterIn f))) (thresholdIn (typedIn j (parameterIn f))) (unitOf (unitIn (parameterIn f))) c m (row .own-rule) in
       let both = and-eq-true-iff (isTA c) (hasSpace (map byteIn f)) .0 (by .0) in
       let is : c ≡ placeTA = eqb-true c placeTA (both .0) in
       let right : isPreset j (parameterIn f) ≡ true =
-      not-false (isPreset j (parameterIn f)) (neither-left (not (isPreset j (parameterIn f))) false (rw (is, both .1) at (row .right))) in
+      not-false (isPreset j (parameterIn f)) (neither-left (not (isPreset j (parameterIn f))) false
+      (neither-left (not (isPreset j (parameterIn f)) || false) false (rw (is, both .1) at (row .right)))) in
       let amount = amount-by (j .capacity) (presetIn j (parameterIn f)) right in
       let read : presetIn j (parameterIn f) ≡ Amount m = amount .0 ∙ ap Amount (by .1) in
       let n : Numbered (j .resolution .unit) (parameterIn f) = numbered (j .resolution .unit) (parameterIn f) (preset-of (j .resolution) _ read .typed) in
@@ -463,11 +499,12 @@ module _ (j : Situation) (f : List Marked) where
   change-line {t} e =
       let row = last refl e in
       let b : Begins f = begins f (row .known) in
-      let by = change-by (isD c) (isTA c && hasSpace (map byteIn f)) (isSR c && hasSpace (map byteIn f)) (length (parameterIn f) - 2)
-      (amountIn (presetIn j (parameterIn f))) (thresholdIn (typedIn j (parameterIn f))) c t (row .own-rule) in
+      let by = change-by (isD c) (isTA c && hasSpace (map byteIn f)) (isSR c && hasSpace (map byteIn f)) (isM21 c && hasSpace (map byteIn f)) (length (parameterIn f) - 2)
+      (amountIn (presetIn j (parameterIn f))) (thresholdIn (typedIn j (parameterIn f))) (unitOf (unitIn (parameterIn f))) c t (row .own-rule) in
       let both = and-eq-true-iff (isSR c) (hasSpace (map byteIn f)) .0 (by .0) in
       let is : c ≡ placeSR = eqb-true c placeSR (both .0) in
-      let right : isThreshold j (parameterIn f) ≡ true = not-false (isThreshold j (parameterIn f)) (rw (is, both .1) at (row .right)) in
+      let right : isThreshold j (parameterIn f) ≡ true =
+      not-false (isThreshold j (parameterIn f)) (neither-left (not (isThreshold j (parameterIn f))) false (rw (is, both .1) at (row .right))) in
       let amount = threshold-by (j .capacity) (typedIn j (parameterIn f)) right in
       let same : amountIn (typedIn j (parameterIn f)) .0 ≡ t .0 = ap (λ (x : Threshold). x .0) (by .1) in
       let typed : typedIn j (parameterIn f) ≡ Amount (record { 0 = t .0 }) = amount .0 ∙ ap (λ (x : Threshold). Amount (record { 0 = x .0 })) (by .1) in
@@ -479,6 +516,25 @@ module _ (j : Situation) (f : List Marked) where
         typed = typed;
         least = rw same at (amount .1);
         within = rw same at (amount .2);
+        free = row .free;
+      }
+
+  -- ---- M21 with a code
+
+  pub select-line : {u : WeightUnit} → judgementOf j f ≡ Select u → SelectLine j f u
+  unfolding ownRule isWrong
+  select-line {u} e =
+      let row = last refl e in
+      let b : Begins f = begins f (row .known) in
+      let by = select-by (isD c) (isTA c && hasSpace (map byteIn f)) (isSR c && hasSpace (map byteIn f)) (isM21 c && hasSpace (map byteIn f))
+      (length (parameterIn f) - 2) (amountIn (presetIn j (parameterIn f))) (thresholdIn (typedIn j (parameterIn f))) (unitOf (unitIn (parameterIn f))) c u
+      (row .own-rule) in
+      let both = and-eq-true-iff (isM21 c) (hasSpace (map byteIn f)) .0 (by .0) in
+      let is : c ≡ placeM21 = eqb-true c placeM21 (both .0) in
+      let right : isCoded (unitIn (parameterIn f)) ≡ true = not-false (isCoded (unitIn (parameterIn f))) (rw (is, both .1) at (row .right)) in
+      record {
+        line = record { bytes = name-then (map byteIn f) (b .a-name) (both .1) ∙ ap (λ (x : ℕ). nameOf x ++ (space ∷ parameterIn f)) is; good = b .good };
+        unit = coded-by (unitIn (parameterIn f)) right ∙ ap Named (by .1);
         free = row .free;
       }
 
@@ -531,8 +587,9 @@ module _ (j : Situation) (f : List Marked) where
   wrong-line e =
       let row = kept refl e in (
         row .0,
-        rw (row .0 .command) at (sym (parameters-are c) ∙ wrong-takes (isD c) (isSR c) (isTA c) (not (hasSpace (map byteIn f) && isQuoted (parameterIn f)))
-            (hasSpace (map byteIn f) && not (isPreset j (parameterIn f))) (hasSpace (map byteIn f) && not (isThreshold j (parameterIn f))) (row .1)),
+        rw (row .0 .command) at (sym (parameters-are c) ∙ wrong-takes (isD c) (isSR c) (isTA c) (isM21 c) (not (hasSpace (map byteIn f) && isQuoted (parameterIn f)))
+            (hasSpace (map byteIn f) && not (isPreset j (parameterIn f))) (hasSpace (map byteIn f) && not (isThreshold j (parameterIn f)))
+            (hasSpace (map byteIn f) && not (isCoded (unitIn (parameterIn f)))) (row .1)),
       )
 
   pub no-sample-line : {k : ℕ} → judgementOf j f ≡ NoSample k → KeptLine f k × (needsSample k ≡ true) × (j .sampled ≡ false)

@@ -1,28 +1,31 @@
--- Document 01, "Receiving": the table of a finished line, its rows in the paper's order, and the parameters of D, TA and SR
--- (document 02, No. 1 and No. 3).
+-- Document 01, "Receiving": the table of a finished line, its rows in the paper's order, and the parameters of D, TA, SR and M21
+-- (document 02, No. 1, No. 3 and No. 5).
 -- Assumes nothing.
 use Prim.Native.Nat.{ℕ, _-_}
-use mathlib.Core.Bool.{Bool, false, cond, not, _&&_, _||_}
+use mathlib.Core.Bool.{Bool, true, false, cond, not, _&&_, _||_}
 use mathlib.Core.List.{List, [], _∷_}
 use lib.Dec.{leb, ltb, eqb}
 use lib.ListN.{length, getD, take, drop}
 use Rattle.answer.specs.declared.answer.Error.the-variants.{Syntax, Transmission, Logical}
-use Rattle.answer.specs.Commands.{names, placeOf, isD, isReset, isSR, isTA, takesParameters, needsSample}
+use Rattle.answer.specs.Commands.{names, placeOf, isD, isM21, isReset, isSR, isTA, takesParameters, needsSample}
 use Rattle.line.specs.declared.receive.Line.{Line}
 use Rattle.line.specs.declared.judge.Situation.{Situation}
 use Rattle.line.specs.declared.judge.Verdict.{Verdict}
-use Rattle.line.specs.declared.judge.Verdict.the-variants.{Erroneous, Reset, Busy, Wrong, NoSample, Run, Preset, Change, Show}
+use Rattle.line.specs.declared.judge.Verdict.the-variants.{Erroneous, Reset, Busy, Wrong, NoSample, Run, Preset, Change, Show, Select}
 use Rattle.line.specs.Receiving.{contentOf}
 use Rattle.weight.specs.declared.amount.Tare.{Tare}
 use Rattle.weight.specs.declared.amount.Typed.{Typed}
 use Rattle.weight.specs.declared.changes.Threshold.{Threshold}
 use Rattle.weight.specs.declared.units.WeightUnit.{WeightUnit}
+use Rattle.weight.specs.declared.units.WeightUnit.the-variants.{G}
 use Rattle.weight.specs.declared.amount.Typed.the-variants.{Amount, TooLarge, NotTyped}
 use Rattle.weight.specs.Characters.{quote}
-use Rattle.text.specs.Ascii.{sameText}
+use Rattle.text.specs.Ascii.{ascii, sameText}
 use Rattle.text.specs.Printable.{isPrintable}
 use Rattle.text.specs.Searching.{beforeSpace, afterSpace, hasSpace}
-use Rattle.text.specs.UnitTexts.{unitText}
+use Rattle.text.specs.declared.unit_texts.UnitRead.{UnitRead}
+use Rattle.text.specs.declared.unit_texts.UnitRead.the-variants.{Named, Unknown}
+use Rattle.text.specs.UnitTexts.{unitText, unitCoded}
 use Rattle.text.specs.Typed.{readPreset, readTyped}
 
 -- a byte below 32
@@ -71,7 +74,7 @@ thresholdOf capacity NotTyped = false
 abbrev pub thresholdIn : Typed → Threshold
 thresholdIn n = record { 0 = amountIn n .0 }
 
--- number, space, the profile's unit: the number's text, and no byte where the rest is not so
+-- number, space, the unit in force: the number's text, and no byte where the rest is not so
 unfoldable pub numberIn : WeightUnit → List ℕ → List ℕ
 numberIn u p = cond (hasSpace p && sameText (afterSpace p) (unitText u)) (beforeSpace p) []
 
@@ -91,12 +94,25 @@ isPreset j p = presetOf (j .capacity) (presetIn j p)
 abbrev pub isThreshold : Situation → List ℕ → Bool
 isThreshold j p = thresholdOf (j .capacity) (typedIn j p)
 
--- a name that takes parameters, with wrong ones; TA and SR may stand alone
+-- of M21: 0, which stands for the host unit, space, a unit's code
+unfoldable pub unitIn : List ℕ → UnitRead
+unitIn p = cond (sameText (take 2 p) (ascii "0 ")) (unitCoded (drop 2 p)) Unknown
+
+abbrev pub isCoded : UnitRead → Bool
+isCoded (Named u) = true
+isCoded Unknown = false
+
+abbrev pub unitOf : UnitRead → WeightUnit
+unitOf (Named u) = u
+unitOf Unknown = G
+
+-- a name that takes parameters, with wrong ones; TA, SR and M21 may stand alone
 unfoldable pub isWrong : Situation → ℕ → List ℕ → Bool
 isWrong j c t =
     (isD c && not (hasSpace t && isQuoted (afterSpace t)))
     || (isTA c && (hasSpace t && not (isPreset j (afterSpace t))))
     || (isSR c && (hasSpace t && not (isThreshold j (afterSpace t))))
+    || (isM21 c && (hasSpace t && not (isCoded (unitIn (afterSpace t)))))
 
 -- ---- the table
 
@@ -109,7 +125,8 @@ unfoldable pub ownRule : Situation → ℕ → List ℕ → Verdict
 ownRule j c t =
     cond (isD c) (Show (length (afterSpace t) - 2))
     (cond (isTA c && hasSpace t) (Preset (amountIn (presetIn j (afterSpace t))))
-    (cond (isSR c && hasSpace t) (Change (thresholdIn (typedIn j (afterSpace t)))) (Run c)))
+    (cond (isSR c && hasSpace t) (Change (thresholdIn (typedIn j (afterSpace t))))
+    (cond (isM21 c && hasSpace t) (Select (unitOf (unitIn (afterSpace t)))) (Run c))))
 
 -- the first row that applies
 abbrev pub firstRow : Bool → Bool → Bool → Bool → Bool → Bool → Bool → ℕ → Verdict → Verdict

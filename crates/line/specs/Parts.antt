@@ -4,11 +4,12 @@ use Prim.Native.Nat.{ℕ, _-_}
 use mathlib.Core.Bool.{Bool, cond, not, _&&_}
 use mathlib.Core.List.{List}
 use lib.ListN.{length}
-use Rattle.answer.specs.Commands.{needsSample, placeD, placeSR, placeTA}
+use Rattle.answer.specs.Commands.{needsSample, placeD, placeM21, placeSR, placeTA}
 use Rattle.line.specs.declared.judge.Situation.{Situation}
 use Rattle.line.specs.declared.judge.Verdict.{Verdict}
-use Rattle.line.specs.declared.judge.Verdict.the-variants.{Wrong, NoSample, Preset, Change, Show}
-use Rattle.line.specs.Judging.{isQuoted, presetIn, typedIn, presetOf, amountIn, thresholdOf, thresholdIn, isWrong, table, ownRule}
+use Rattle.line.specs.declared.judge.Verdict.the-variants.{Wrong, NoSample, Preset, Change, Show, Select}
+use Rattle.line.specs.Judging.{isQuoted, presetIn, typedIn, presetOf, amountIn, thresholdOf, thresholdIn, unitIn, isCoded, unitOf, isWrong, table, ownRule}
+use Rattle.text.specs.declared.unit_texts.UnitRead.{UnitRead}
 use Rattle.weight.specs.declared.amount.Typed.{Typed}
 
 -- rows 6 to 8 of D with the parameter p
@@ -30,6 +31,14 @@ thresholdRule capacity n = cond (thresholdOf capacity n) (Change (thresholdIn n)
 -- rows 6 to 8 of SR with the parameter p
 unfoldable pub changeRule : Situation → List ℕ → Verdict
 changeRule j p = thresholdRule (j .capacity) (typedIn j p)
+
+-- rows 6 to 8 of M21 with a unit as read
+unfoldable pub codeRule : UnitRead → Verdict
+codeRule n = cond (isCoded n) (Select (unitOf n)) (Wrong placeM21)
+
+-- rows 6 to 8 of M21 with the parameter p
+unfoldable pub selectRule : List ℕ → Verdict
+selectRule p = codeRule (unitIn p)
 
 -- rows 6 to 8
 unfoldable pub lastRows : Situation → ℕ → List ℕ → Verdict

@@ -10,12 +10,14 @@ ghost use Rattle.weight.specs.Characters.{space};
 ghost use Rattle.text.specs.Searching.{FirstAt};
 use crate::parameter::change_rule;
 use crate::parameter::preset_rule;
+use crate::parameter::select_rule;
 use crate::parameter::show_rule;
 use crate::receive::LINE_LIMIT;
 use crate::receive::Line;
 use crate::scan::has_control;
 use answer::D;
 use answer::Error;
+use answer::M21;
 use answer::NONE;
 use answer::RESET;
 use answer::SR;
@@ -27,8 +29,9 @@ use text::first_at;
 use weight::Resolution;
 use weight::Tare;
 use weight::Threshold;
+use weight::WeightUnit;
 
-// What the table asks of the device: document 01's C, how weights are shown, whether a command waits, and whether there was a sample.
+// What the table asks of the device: document 01's C, the resolution in force, whether a command waits, and whether there was a sample.
 pub struct Situation {
     pub capacity: u32,
     pub resolution: Resolution,
@@ -51,6 +54,8 @@ pub enum Verdict {
     Change(Threshold),
     // D with a text of this length, which starts at the line's fourth byte.
     Show(u8),
+    // M21 with a code.
+    Select(WeightUnit),
 }
 
 const CELLS: usize = LINE_LIMIT as usize;
@@ -87,6 +92,13 @@ fn last_rows(situation: Situation, command: u8, text: &[u8], end: usize) -> Verd
             return change_rule(situation, &text[start..]);
         }
         return Verdict::Run(SR);
+    }
+    if command == M21 {
+        if end < text.len() {
+            let start = end + 1;
+            return select_rule(&text[start..]);
+        }
+        return Verdict::Run(M21);
     }
     if lacks_sample(situation, command) {
         return Verdict::NoSample(command);

@@ -1,17 +1,21 @@
-// The parameters of D, TA and SR.
+// The parameters of D, TA, SR and M21.
 ghost use mathlib.Core.Path.{_≡_};
 ghost use Rattle.line.specs.Judging.{isShown, isQuoted, numberIn};
-ghost use Rattle.line.specs.Parts.{showRule, amountRule, presetRule, thresholdRule, changeRule};
+ghost use Rattle.line.specs.Parts.{showRule, amountRule, presetRule, thresholdRule, changeRule, codeRule, selectRule};
 use crate::judge::Situation;
 use crate::judge::Verdict;
 use answer::D;
+use answer::M21;
 use answer::SR;
 use answer::TA;
+use text::UnitRead;
 use text::first_at;
 use text::is_printable;
 use text::is_unit;
+use text::read_code;
 use text::read_preset;
 use text::read_typed;
+use text::same_text;
 use weight::Typed;
 use weight::WeightUnit;
 use weight::is_tare_within;
@@ -87,7 +91,7 @@ fn threshold_rule(capacity: u32, typed: Typed) -> Verdict
     }
 }
 
-// Number, space, the profile's unit: the number, and no byte where the rest is not so.
+// Number, space, the unit in force: the number, and no byte where the rest is not so.
 fn number_in(unit: WeightUnit, parameter: &[u8]) -> &[u8]
     ensures { λ r. ⌜ now r ≡ numberIn unit (now (parameter .entry)) ⌝ }
 {
@@ -120,4 +124,31 @@ pub fn change_rule(situation: Situation, parameter: &[u8]) -> Verdict
     let unit = resolution.unit;
     let typed = read_typed(unit, number_in(unit, parameter));
     threshold_rule(situation.capacity, typed)
+}
+
+// A unit as read.
+fn code_rule(read: UnitRead) -> Verdict
+    ensures { λ r. ⌜ r ≡ codeRule read ⌝ }
+{
+    match read {
+        UnitRead::Named(unit) => Verdict::Select(unit),
+        UnitRead::Unknown => Verdict::Wrong(M21),
+    }
+}
+
+// The host unit, which M21 numbers 0, and the space after it.
+const HOST_UNIT: [u8; 2] = [b'0', b' '];
+
+// What M21 does with its parameter.
+pub fn select_rule(parameter: &[u8]) -> Verdict
+    ensures { λ r. ⌜ r ≡ selectRule (now (parameter .entry)) ⌝ }
+{
+    if parameter.len() < 2 {
+        return Verdict::Wrong(M21);
+    }
+    let host = HOST_UNIT;
+    if same_text(&parameter[..2], &host) {
+        return code_rule(read_code(&parameter[2..]));
+    }
+    Verdict::Wrong(M21)
 }

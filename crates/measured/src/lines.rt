@@ -47,7 +47,7 @@ fn simple(kind: u8, first: u8, second: u8, len: usize) -> Digest {
 
 fn digest_of(answer: Answer, len: usize) -> Digest {
     match answer {
-        Answer::Nothing => simple(7, 0, 0, len),
+        Answer::Nothing => simple(9, 0, 0, len),
         Answer::Plain(head) => {
             let status = head.status;
             simple(1, head.identification, status_number(status), len)
@@ -78,6 +78,15 @@ fn digest_of(answer: Answer, len: usize) -> Digest {
         Answer::Listed(last, command) => simple(5, command, last as u8, len),
         Answer::CommandList => simple(8, 0, 0, len),
         Answer::Versions => simple(6, 0, 0, len),
+        Answer::HostUnit(unit) => {
+            let one = nanograms_of(unit);
+            Digest {
+                head: joined(7, 0, 0, 0),
+                unit: one.0,
+                len,
+                value: 0,
+            }
+        }
     }
 }
 

@@ -1,27 +1,14 @@
-// A profile of 143 bytes: C, U, R and W, the place of the unit, decimals, step, and the texts of I2 to I5, each after its length.
+// A profile of 158 bytes: C, U, R and W, decimals and step of each unit, and the texts of I2 to I5, each after its length.
 use crate::record::joined;
 use model::Profile;
+use model::Readability;
 use model::Text20;
 use model::Text40;
 use text::byte_at;
 use text::part;
-use weight::Resolution;
-use weight::WeightUnit;
 
-// With a byte to spare.
-const SIZE: usize = 144;
-
-fn unit_of(place: u8) -> WeightUnit {
-    match place {
-        0 => WeightUnit::G,
-        1 => WeightUnit::Mg,
-        2 => WeightUnit::Ct,
-        3 => WeightUnit::Oz,
-        4 => WeightUnit::Ozt,
-        5 => WeightUnit::Gn,
-        _ => WeightUnit::Dwt,
-    }
-}
+// With two bytes to spare.
+const SIZE: usize = 160;
 
 // The bytes from `at` on, 0 past the end.
 fn copy(from: &[u8], at: usize, to: &mut [u8]) {
@@ -41,6 +28,29 @@ fn number_at(bytes: &[u8], at: usize) -> u32 {
         byte_at(four, 2),
         byte_at(four, 3),
     )
+}
+
+fn row_at(rows: &[u8], at: usize) -> Readability {
+    let row = part(rows, at, 2);
+    Readability {
+        decimals: byte_at(row, 0),
+        step: byte_at(row, 1),
+    }
+}
+
+// In the order of the units.
+fn rows_of(rows: &[u8]) -> [Readability; 9] {
+    [
+        row_at(rows, 0),
+        row_at(rows, 2),
+        row_at(rows, 4),
+        row_at(rows, 6),
+        row_at(rows, 8),
+        row_at(rows, 10),
+        row_at(rows, 12),
+        row_at(rows, 14),
+        row_at(rows, 16),
+    ]
 }
 
 // The length is at `at`, and the text after it.
@@ -72,14 +82,10 @@ pub fn profile_at(profiles: &[u8], n: u32) -> Profile {
         underload: number_at(bytes, 4),
         zeroing: number_at(bytes, 8),
         timeout: number_at(bytes, 12),
-        resolution: Resolution {
-            unit: unit_of(byte_at(bytes, 16)),
-            decimals: byte_at(bytes, 17),
-            step: byte_at(bytes, 18),
-        },
-        model: text40(bytes, 19),
-        software: text40(bytes, 60),
-        serial: text20(bytes, 101),
-        release: text20(bytes, 122),
+        readability: rows_of(part(bytes, 16, 18)),
+        model: text40(bytes, 34),
+        software: text40(bytes, 75),
+        serial: text20(bytes, 116),
+        release: text20(bytes, 137),
     }
 }

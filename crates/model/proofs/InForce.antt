@@ -18,7 +18,7 @@ use Rattle.model.proofs.Sizes.{size-between}
 
 pub allowed-in-force : (p : Profile) → profileAllowed p ≡ true → (w : Weighing) → allowedResolution (resolutionIn p w) ≡ true
 unfolding resolutionIn
-allowed-in-force p h w = allowed-profile p h .resolution
+allowed-in-force p h w = allowed-profile p h .units (w .unit) .resolution
 
 pub nets-printable
     : (p : Profile) → profileAllowed p ≡ true → (w : Weighing) (net : ℤ)
@@ -29,4 +29,4 @@ unfolding printable resolutionIn
 nets-printable p h w net low high =
     let facts : AllowedProfile p = allowed-profile p h in
     let size : natAbs net ≤ p .underload + p .capacity = size-between (p .underload + p .capacity) (p .capacity) net (omega arith) low high in
-    rw (facts .resolution, le-leb (natAbs net) netLimit (omega arith)) (nets-fit p h net low high)
+    rw (facts .units (w .unit) .resolution, le-leb (natAbs net) netLimit (omega arith)) (nets-fit p h (w .unit) net low high)

@@ -6,3 +6,4 @@ pub mod ProfileFacts
 mod Sizes
 pub mod StateFacts
 mod StateTested
+mod UnitsTested

@@ -1,18 +1,22 @@
 -- What an allowed profile gives: the lines of document 01, "The profile".
 -- Assumes nothing.
-use mathlib.Core.Path.{_≡_}
+use mathlib.Core.Path.{_≡_, refl}
 use mathlib.Core.Bool.{Bool, true, false, _&&_}
-use mathlib.Core.List.{List}
-use Prim.Native.Nat.{ℕ, _≤_}
+use mathlib.Core.List.{List, [], _∷_}
+use Prim.Native.Nat.{ℕ, zero, suc, _≤_, _<_}
+use native.Mathlib.Nat.{le-of-suc-le-suc, not-suc-le-zero}
 use native.Mathlib.Omega.{arith}
 use borrow.Author.Tests.{leb-true}
 use lib.Dec.{leb}
-use lib.ListN.{length, take, length-take}
+use lib.ListN.{length, getD, take, length-take}
 use Rattle.text.specs.Printable.{isPrintable}
+use Rattle.weight.specs.declared.units.WeightUnit.{WeightUnit}
+use Rattle.weight.specs.declared.units.WeightUnit.the-variants.{G, Mg, Ct, Oz, Ozt, Gn, Dwt, Kg, Lb}
 use Rattle.weight.specs.Rounding.{allowedResolution}
+use Rattle.weight.specs.Units.{allUnits, unitPlace}
 use Rattle.weight.proofs.Allowed.{both-left, both-right}
 use Rattle.model.specs.declared.profile.Profile.{Profile}
-use Rattle.model.specs.Profiles.{capacityAllowed, underloadAllowed, zeroRangeAllowed, timeoutAllowed, netsAllowed, textAllowed20, textAllowed40, textsAllowed, profileAllowed}
+use Rattle.model.specs.Profiles.{capacityAllowed, underloadAllowed, zeroRangeAllowed, timeoutAllowed, resolutionOf, netsAllowed, unitAllowed, everyUnit, unitsAllowed, textAllowed20, textAllowed40, textsAllowed, profileAllowed}
 use Rattle.model.proofs.Conjunctions.{Four, four}
 
 -- the lines on C, U, R and W
@@ -50,15 +54,50 @@ limits-refuse p e = rw e
 -- and with those that are the rest decides
 pub limits-allow
     : (p : Profile) → limitsAllowed p ≡ true
-    → profileAllowed p ≡ (allowedResolution (p .resolution) && netsAllowed p && textsAllowed p)
+    → profileAllowed p ≡ (unitsAllowed p && textsAllowed p)
 unfolding profileAllowed
 limits-allow p e = rw e
+
+-- ---- every unit
+
+every-at : (f : WeightUnit → Bool) (us : List WeightUnit) (i : ℕ) → everyUnit f us ≡ true → i < length us → f (getD us i G) ≡ true
+every-at f [] i e h = absurd (not-suc-le-zero h)
+every-at f (u ∷ us) zero e h = both-left (f u) (everyUnit f us) e
+every-at f (u ∷ us) (suc i) e h = every-at f us i (both-right (f u) (everyUnit f us) e) (le-of-suc-le-suc h)
+
+-- a unit stands at its place
+pub unit-at : (u : WeightUnit) → (unitPlace u < 9) × (getD allUnits (unitPlace u) G ≡ u)
+unit-at G = (omega arith, refl)
+unit-at Mg = (omega arith, refl)
+unit-at Ct = (omega arith, refl)
+unit-at Oz = (omega arith, refl)
+unit-at Ozt = (omega arith, refl)
+unit-at Gn = (omega arith, refl)
+unit-at Dwt = (omega arith, refl)
+unit-at Kg = (omega arith, refl)
+unit-at Lb = (omega arith, refl)
+
+-- what every unit passes, each does
+pub each-unit : (f : WeightUnit → Bool) → everyUnit f allUnits ≡ true → (u : WeightUnit) → f u ≡ true
+each-unit f e u = let place = unit-at u in rw (place .1) at (every-at f allUnits (unitPlace u) e (place .0))
+
+-- the lines on a unit
+pub record AllowedUnit (p : Profile) (u : WeightUnit) : Type 0 where
+  pub resolution : allowedResolution (resolutionOf p u) ≡ true
+  pub nets : netsAllowed p (resolutionOf p u) ≡ true
+
+allowed-unit : (p : Profile) (u : WeightUnit) → unitAllowed p u ≡ true → AllowedUnit p u
+unfolding unitAllowed
+allowed-unit p u h =
+    record {
+      resolution = both-left (allowedResolution (resolutionOf p u)) (netsAllowed p (resolutionOf p u)) h;
+      nets = both-right (allowedResolution (resolutionOf p u)) (netsAllowed p (resolutionOf p u)) h;
+    }
 
 -- all lines of an allowed profile
 pub record AllowedProfile (p : Profile) : Type 0 where
   pub limits : AllowedLimits p
-  pub resolution : allowedResolution (p .resolution) ≡ true
-  pub nets : netsAllowed p ≡ true
+  pub units : (u : WeightUnit) → AllowedUnit p u
   pub model : textAllowed40 (p .model) ≡ true
   pub software : textAllowed40 (p .software) ≡ true
   pub serial : textAllowed20 (p .serial) ≡ true
@@ -68,16 +107,15 @@ pub record AllowedProfile (p : Profile) : Type 0 where
 pub allowed-profile : (p : Profile) → profileAllowed p ≡ true → AllowedProfile p
 unfolding profileAllowed
 allowed-profile p h =
-    let lines : Four (limitsAllowed p) (allowedResolution (p .resolution)) (netsAllowed p) (textsAllowed p) =
-    four (limitsAllowed p) (allowedResolution (p .resolution)) (netsAllowed p) (textsAllowed p) h in
+    let first = both-left (limitsAllowed p && unitsAllowed p) (textsAllowed p) h in
+    let texts = both-right (limitsAllowed p && unitsAllowed p) (textsAllowed p) h in
     let long = textAllowed40 (p .model) && textAllowed40 (p .software) in
     let short = textAllowed20 (p .serial) && textAllowed20 (p .release) in
-    let longs = both-left long short (lines .fourth) in
-    let shorts = both-right long short (lines .fourth) in
+    let longs = both-left long short texts in
+    let shorts = both-right long short texts in
     record {
-      limits = allowed-limits p (lines .first);
-      resolution = lines .second;
-      nets = lines .third;
+      limits = allowed-limits p (both-left (limitsAllowed p) (unitsAllowed p) first);
+      units = λ u. allowed-unit p u (each-unit (unitAllowed p) (both-right (limitsAllowed p) (unitsAllowed p) first) u);
       model = both-left (textAllowed40 (p .model)) (textAllowed40 (p .software)) longs;
       software = both-right (textAllowed40 (p .model)) (textAllowed40 (p .software)) longs;
       serial = both-left (textAllowed20 (p .serial)) (textAllowed20 (p .release)) shorts;

@@ -1,20 +1,24 @@
--- Document 01, "The profile": a profile is refused exactly when one of these lines is broken.
+-- Document 01, "The profile": a profile is refused exactly when one of these lines is broken, those on decimals and step in any unit
+-- (document 02, No. 5).
 -- Assumes nothing.
 use Prim.Native.Nat.{ℕ, _+_}
-use mathlib.Core.Bool.{Bool, cond, _&&_}
-use mathlib.Core.List.{List, []}
+use mathlib.Core.Bool.{Bool, true, cond, _&&_}
+use mathlib.Core.List.{List, [], _∷_}
 use lib.Dec.{leb}
 use lib.IntN.{pos, negℤ}
-use lib.ListN.{take}
+use lib.ListN.{take, getD}
 use Rattle.answer.specs.Commands.{isI2, isI3, isI4, isI5}
 use Rattle.model.specs.declared.profile.Text20.{Text20}
 use Rattle.model.specs.declared.profile.Text40.{Text40}
 use Rattle.model.specs.declared.profile.Profile.{Profile}
+use Rattle.model.specs.declared.profile.Readability.{Readability}
 use Rattle.model.specs.declared.profile.Scale.{Scale}
 use Rattle.model.specs.declared.weighing.Weighing.{Weighing}
 use Rattle.text.specs.Printable.{isPrintable}
 use Rattle.weight.specs.Rounding.{allowedResolution, placesOf}
 use Rattle.weight.specs.Places.{fitsField}
+use Rattle.weight.specs.declared.units.WeightUnit.{WeightUnit}
+use Rattle.weight.specs.Units.{allUnits, unitPlace}
 use Rattle.weight.specs.declared.rounding.Resolution.{Resolution}
 
 abbrev pub textOf20 : Text20 → List ℕ
@@ -39,11 +43,35 @@ zeroRangeAllowed p = leb (p .zeroing) (p .capacity)
 abbrev pub timeoutAllowed : Profile → Bool
 timeoutAllowed p = leb 1 (p .timeout) && leb (p .timeout) 1000
 
+-- decimals and step of a unit, in the order of the units; past the end there are none
+abbrev pub noReadability : Readability
+noReadability = record { decimals = 0; step = 0 }
+
+abbrev pub resolutionFrom : List Readability → WeightUnit → Resolution
+resolutionFrom rows u =
+    let row = getD rows (unitPlace u) noReadability in
+    record { unit = u; decimals = row .decimals; step = row .step }
+
+abbrev pub resolutionOf : Profile → WeightUnit → Resolution
+resolutionOf p u = resolutionFrom (p .readability) u
+
 -- Every net weight from -(U+C) to C, printed, fits ten characters: the two ends do
-abbrev pub netsAllowed : Profile → Bool
-netsAllowed p =
-    fitsField (p .resolution .decimals) (placesOf (p .resolution) (negℤ (pos (p .underload + p .capacity))))
-    && fitsField (p .resolution .decimals) (placesOf (p .resolution) (pos (p .capacity)))
+abbrev pub netsAllowed : Profile → Resolution → Bool
+netsAllowed p r =
+    fitsField (r .decimals) (placesOf r (negℤ (pos (p .underload + p .capacity))))
+    && fitsField (r .decimals) (placesOf r (pos (p .capacity)))
+
+-- the lines on decimals and step and on the nets, in one unit
+unfoldable pub unitAllowed : Profile → WeightUnit → Bool
+unitAllowed p u = allowedResolution (resolutionOf p u) && netsAllowed p (resolutionOf p u)
+
+-- and in every unit, whichever is in force
+abbrev pub everyUnit : (WeightUnit → Bool) → List WeightUnit → Bool
+everyUnit f [] = true
+everyUnit f (u ∷ us) = f u && everyUnit f us
+
+abbrev pub unitsAllowed : Profile → Bool
+unitsAllowed p = everyUnit (unitAllowed p) allUnits
 
 -- Texts for I2 and I3 (0 to 40 characters), I4 and I5 (0 to 20): bytes 32 to 255 without 34
 abbrev pub textAllowed20 : Text20 → Bool
@@ -56,20 +84,19 @@ abbrev pub textsAllowed : Profile → Bool
 textsAllowed p =
     (textAllowed40 (p .model) && textAllowed40 (p .software)) && (textAllowed20 (p .serial) && textAllowed20 (p .release))
 
--- the lines of "The profile", one after another; unit, decimals and step are those of the resolution
+-- the lines of "The profile", one after another
 unfoldable pub profileAllowed : Profile → Bool
 profileAllowed p =
     capacityAllowed p
     && underloadAllowed p
     && zeroRangeAllowed p
     && timeoutAllowed p
-    && allowedResolution (p .resolution)
-    && netsAllowed p
+    && unitsAllowed p
     && textsAllowed p
 
--- the resolution in force
+-- the resolution in force: that of the unit in force
 unfoldable pub resolutionIn : Profile → Weighing → Resolution
-resolutionIn p w = p .resolution
+resolutionIn p w = resolutionOf p (w .unit)
 
 -- what weighing asks of a profile
 abbrev pub scaleOf : Profile → Weighing → Scale

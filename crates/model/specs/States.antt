@@ -13,6 +13,7 @@ use Rattle.model.specs.declared.state.State.{State}
 use Rattle.model.specs.Profiles.{textAllowed20}
 use Rattle.model.specs.Sendings.{isOff, changeAllowed}
 use Rattle.line.specs.Receiving.{emptyLine, lineLimit}
+use Rattle.weight.specs.declared.units.WeightUnit.the-variants.{G}
 
 -- zero in its range: -R..R
 abbrev pub zeroAllowed : Profile → State → Bool
@@ -64,12 +65,12 @@ stateAllowed p s =
     && sendingAllowed s
     && changeAllowed (p .underload) (p .capacity) (s .sending) (isChange (s .waiting .pending))
 
--- zero 0, tare 0, the weight shown, an empty line, no sample, no command waiting, and nothing sent unasked
+-- zero 0, tare 0, g as the unit, the weight shown, an empty line, no sample, no command waiting, and nothing sent unasked
 unfoldable pub startState : State
 startState =
     record {
       line = emptyLine;
-      weighing = record { zero = record { 0 = pos 0 }; tare = record { 0 = 0 }; sampled = false; load = record { 0 = pos 0 }; stable = false };
+      weighing = record { zero = record { 0 = pos 0 }; tare = record { 0 = 0 }; unit = G; sampled = false; load = record { 0 = pos 0 }; stable = false };
       waiting = record { pending = Nothing; unstable = 0 };
       sending = record { last = record { 0 = pos 0 }; threshold = record { 0 = 0 }; mode = Off; owed = false; outside = false };
       display = record { shown = false; text = record { bytes = replicate 20 0; len = 0 } };

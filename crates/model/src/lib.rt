@@ -15,6 +15,7 @@ pub use groups::with_sending;
 pub use groups::with_waiting;
 pub use groups::with_weighing;
 pub use profile::Profile;
+pub use profile::Readability;
 pub use profile::Scale;
 pub use profile::Text20;
 pub use profile::Text40;

@@ -1,16 +1,18 @@
 // What is fixed from power-on, and whether it is allowed.
 ghost use mathlib.Core.Path.{_≡_};
 ghost use mathlib.Core.Bool.{_&&_};
-ghost use Prim.Native.Nat.{_≤_};
 ghost use lib.Dec.{leb};
 ghost use lib.ListN.{length, take};
 ghost use Rattle.text.specs.Printable.{isPrintable};
-ghost use Rattle.weight.specs.Rounding.{allowedResolution};
-ghost use Rattle.model.specs.Profiles.{capacityAllowed, underloadAllowed, zeroRangeAllowed, timeoutAllowed, netsAllowed, textAllowed20, textsAllowed, profileAllowed, resolutionIn, scaleOf};
+ghost use Rattle.model.specs.Reaches.{surelyIn, closelyIn, surelyInAll, closelyInAll};
+ghost use Rattle.model.specs.Profiles.{capacityAllowed, underloadAllowed, zeroRangeAllowed, timeoutAllowed, textAllowed20, textsAllowed, profileAllowed, resolutionFrom, resolutionIn, scaleOf};
 use crate::weighing::Weighing;
 use text::is_printable;
 use weight::Resolution;
+use weight::WeightUnit;
 use weight::fits_below_zero;
+use weight::fits_surely;
+use weight::place_of;
 
 // A text: its first `len` bytes.
 pub struct Text20 {
@@ -23,13 +25,20 @@ pub struct Text40 {
     pub len: u8,
 }
 
+// How a unit is shown: document 01's d and k.
+pub struct Readability {
+    pub decimals: u8,
+    pub step: u8,
+}
+
 pub struct Profile {
     // Document 01's C, U and R, in micrograms, and W (its "patience"), the samples after which a wait times out.
     pub capacity: u32,
     pub underload: u32,
     pub zeroing: u32,
     pub timeout: u32,
-    pub resolution: Resolution,
+    // Of each unit, in the order of the units.
+    pub readability: [Readability; 9],
     // The texts of I2, I3, I4 and I5; the last is the identification number of the software release.
     pub model: Text40,
     pub software: Text40,
@@ -45,11 +54,24 @@ pub struct Scale {
     pub resolution: Resolution,
 }
 
+fn resolution_from(rows: [Readability; 9], unit: WeightUnit) -> Resolution
+    ensures { λ r. ⌜ r ≡ resolutionFrom rows unit ⌝ }
+{
+    let row = rows[place_of(unit) as usize];
+    Resolution {
+        unit,
+        decimals: row.decimals,
+        step: row.step,
+    }
+}
+
 // The resolution in force.
 pub fn resolution_in(profile: Profile, weighing: Weighing) -> Resolution
     ensures { λ r. ⌜ r ≡ resolutionIn profile weighing ⌝ }
 {
-    profile.resolution
+    let rows = profile.readability;
+    let unit = weighing.unit;
+    resolution_from(rows, unit)
 }
 
 pub fn scale_of(profile: Profile, weighing: Weighing) -> Scale
@@ -102,21 +124,66 @@ fn are_limits_allowed(profile: Profile) -> bool
     weights & ((1 <= timeout) & (timeout <= 1000))
 }
 
-// The resolution, and the lower end of the nets: where it fits, the upper one does.
-fn are_nets_allowed(profile: Profile) -> bool
-    requires { ⌜ profile .capacity ≤ 1_000_000_000 ⌝ }
-    requires { ⌜ profile .underload ≤ profile .capacity ⌝ }
-    ensures { λ r. ⌜ r ≡ allowedResolution (profile .resolution) && netsAllowed profile ⌝ }
+fn is_sure(rows: [Readability; 9], unit: WeightUnit, reach: u32) -> bool
+    ensures { λ r. ⌜ r ≡ surelyIn rows reach unit ⌝ }
 {
-    let resolution = profile.resolution;
-    fits_below_zero(resolution, profile.underload + profile.capacity)
+    fits_surely(resolution_from(rows, unit), reach)
 }
 
+// The quick test, which most profiles pass.
+fn are_sure(rows: [Readability; 9], reach: u32) -> bool
+    ensures { λ r. ⌜ r ≡ surelyInAll rows reach ⌝ }
+{
+    is_sure(rows, WeightUnit::G, reach)
+        & is_sure(rows, WeightUnit::Mg, reach)
+        & is_sure(rows, WeightUnit::Ct, reach)
+        & is_sure(rows, WeightUnit::Oz, reach)
+        & is_sure(rows, WeightUnit::Ozt, reach)
+        & is_sure(rows, WeightUnit::Gn, reach)
+        & is_sure(rows, WeightUnit::Dwt, reach)
+        & is_sure(rows, WeightUnit::Kg, reach)
+        & is_sure(rows, WeightUnit::Lb, reach)
+}
+
+// Whether a unit has an allowed resolution, with which a net that far below zero fits.
+fn reaches(rows: [Readability; 9], unit: WeightUnit, reach: u32) -> bool
+    ensures { λ r. ⌜ r ≡ closelyIn rows reach unit ⌝ }
+{
+    fits_below_zero(resolution_from(rows, unit), reach)
+}
+
+fn all_reach(rows: [Readability; 9], reach: u32) -> bool
+    ensures { λ r. ⌜ r ≡ closelyInAll rows reach ⌝ }
+{
+    reaches(rows, WeightUnit::G, reach)
+        & reaches(rows, WeightUnit::Mg, reach)
+        & reaches(rows, WeightUnit::Ct, reach)
+        & reaches(rows, WeightUnit::Oz, reach)
+        & reaches(rows, WeightUnit::Ozt, reach)
+        & reaches(rows, WeightUnit::Gn, reach)
+        & reaches(rows, WeightUnit::Dwt, reach)
+        & reaches(rows, WeightUnit::Kg, reach)
+        & reaches(rows, WeightUnit::Lb, reach)
+}
+
+// In every unit, closely only where it has to be.
+fn are_reached(rows: [Readability; 9], reach: u32) -> bool
+    ensures { λ r. ⌜ r ≡ closelyInAll rows reach ⌝ }
+{
+    if are_sure(rows, reach) {
+        return true;
+    }
+    all_reach(rows, reach)
+}
+
+// The units are tested by the lower end of the nets: where it fits, the upper one does.
 pub fn is_profile_allowed(profile: Profile) -> bool
     ensures { λ r. ⌜ r ≡ profileAllowed profile ⌝ }
 {
     if !are_limits_allowed(profile) {
         return false;
     }
-    are_nets_allowed(profile) & are_texts_allowed(profile)
+    let rows = profile.readability;
+    let reach = profile.underload + profile.capacity;
+    are_reached(rows, reach) & are_texts_allowed(profile)
 }

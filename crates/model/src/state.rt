@@ -17,6 +17,7 @@ use weight::Micrograms;
 use weight::NO_LOAD;
 use weight::NO_TARE;
 use weight::NO_THRESHOLD;
+use weight::WeightUnit;
 use weight::from_load;
 use weight::is_tare_within;
 use weight::is_within;
@@ -127,6 +128,7 @@ pub fn start_state() -> State
     let weighing = Weighing {
         zero: NO_LOAD,
         tare: NO_TARE,
+        unit: WeightUnit::G,
         sampled: false,
         load: NO_LOAD,
         stable: false,

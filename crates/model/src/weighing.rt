@@ -1,6 +1,7 @@
-// Zero, tare and the latest sample.
+// Zero, tare, the unit in force and the latest sample.
 use weight::Load;
 use weight::Tare;
+use weight::WeightUnit;
 
 pub struct Weighing {
     // The load that counts as nothing.
@@ -8,6 +9,8 @@ pub struct Weighing {
     pub tare: Tare,
     // The latest sample, and whether there was one since power-on.
     pub load: Load,
+    // What weights are told and typed in.
+    pub unit: WeightUnit,
     pub stable: bool,
     pub sampled: bool,
 }

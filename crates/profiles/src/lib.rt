@@ -1,11 +1,10 @@
 // Document 01's profile A, which the programs share.
 ghost use mathlib.Core.Path.{_≡_};
-ghost use Rattle.profiles.specs.ProfileA.{noText40, noText20, serialA, profileA};
+ghost use Rattle.profiles.specs.ProfileA.{noText40, noText20, serialA, readabilityA, profileA};
 use model::Profile;
+use model::Readability;
 use model::Text20;
 use model::Text40;
-use weight::Resolution;
-use weight::WeightUnit;
 
 fn no_text() -> Text40
     ensures { λ r. ⌜ r ≡ noText40 ⌝ }
@@ -30,6 +29,21 @@ fn serial() -> Text20
     }
 }
 
+fn readability() -> [Readability; 9]
+    ensures { λ r. ⌜ r ≡ readabilityA ⌝ }
+{
+    let other = Readability {
+        decimals: 2,
+        step: 1,
+    };
+    let mut rows = [other; 9];
+    rows[0] = Readability {
+        decimals: 4,
+        step: 1,
+    };
+    rows
+}
+
 pub fn profile_a() -> Profile
     ensures { λ r. ⌜ r ≡ profileA ⌝ }
 {
@@ -38,11 +52,7 @@ pub fn profile_a() -> Profile
         underload: 1_000_000,
         zeroing: 4_400_000,
         timeout: 3,
-        resolution: Resolution {
-            unit: WeightUnit::G,
-            decimals: 4,
-            step: 1,
-        },
+        readability: readability(),
         model: no_text(),
         software: no_text(),
         serial: serial(),

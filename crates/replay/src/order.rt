@@ -9,16 +9,26 @@ use crate::words::first;
 use crate::words::first_cells;
 use script::Numbers;
 use script::Order;
+use script::UnitNumbers;
 use script::order_of;
 use script::put_bytes;
 use script::put_marks;
 use script::sent_byte;
 use script::with_numbers;
+use script::with_unit;
 use told::put_state;
 
 fn set_numbers(session: Session, numbers: Numbers) -> Session {
     let given = session.profile;
     let profile = with_numbers(given, numbers);
+    let mut next = session;
+    next.profile = profile;
+    next
+}
+
+fn set_unit(session: Session, numbers: UnitNumbers) -> Session {
+    let given = session.profile;
+    let profile = with_unit(given, numbers);
     let mut next = session;
     next.profile = profile;
     next
@@ -86,6 +96,7 @@ pub fn perform(session: Session, line: &[u8], out: &mut [u8]) -> Session {
         Order::On => make(session, Call::On, out),
         Order::State => tell_state(session),
         Order::Numbers(numbers) => set_numbers(session, numbers),
+        Order::Unit(numbers) => set_unit(session, numbers),
         Order::Text => set_text(session, line),
         Order::Room(room) => set_room(session, room),
         Order::Bytes(count, faulty) => call_bytes(session, line, count, faulty, out),

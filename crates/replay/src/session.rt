@@ -41,7 +41,7 @@ pub enum Call {
 pub fn start() -> Session {
     Session {
         profile: profile_a(),
-        room: 256,
+        room: 384,
         calls: 0,
         on: false,
         state: start_state(),

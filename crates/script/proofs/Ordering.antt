@@ -14,11 +14,12 @@ use Rattle.script.specs.declared.number.LoadRead.{LoadRead}
 use Rattle.script.specs.declared.order.Order.{Order}
 use Rattle.script.specs.declared.order.Order.the-variants as orders
 use Rattle.script.specs.declared.profile.Numbers.{Numbers}
+use Rattle.script.specs.declared.profile.UnitNumbers.{UnitNumbers}
 use Rattle.script.specs.Hex.{areHex, hexByte}
 use Rattle.script.specs.Marked.{areMarked}
 use Rattle.script.specs.Numbers.{numberOf, loadOf}
-use Rattle.script.specs.Orders.{setOrder, numbersOrder, textOrder, roomOrder, hexOrder, loadOrder, callOrder, lentOrder, bufferOrder, namedOrder, orderOf, commandByte, sentByte}
-use Rattle.script.specs.Settings.{numbersIn, areNumbers, roomOf, textFits}
+use Rattle.script.specs.Orders.{setOrder, numbersOrder, setUnitOrder, unitOrder, textOrder, roomOrder, hexOrder, loadOrder, callOrder, lentOrder, bufferOrder, namedOrder, orderOf, commandByte, sentByte}
+use Rattle.script.specs.Settings.{numbersIn, areNumbers, unitNumbersIn, areUnitNumbers, roomOf, textFits}
 use Rattle.script.specs.Words.{firstWord, afterWord, spacesIn}
 
 -- ---- the room of a text, and whether it fits
@@ -50,6 +51,17 @@ module _ (t : List ℕ) where
     no-numbers e =
         let chosen : orders.Unknown ≡ setOrder n = rw (← test, e) in
         chosen ∙ ap setOrder read
+
+  module _ {n : UnitNumbers} {b : Bool} (read : n ≡ unitNumbersIn t) (test : b ≡ areUnitNumbers n) where
+    pub unit-read : b ≡ true → orders.Unit n ≡ unitOrder t
+    unit-read e =
+        let chosen : orders.Unit n ≡ setUnitOrder n = rw (← test, e) in
+        chosen ∙ ap setUnitOrder read
+
+    pub no-unit : b ≡ false → orders.Unknown ≡ unitOrder t
+    no-unit e =
+        let chosen : orders.Unknown ≡ setUnitOrder n = rw (← test, e) in
+        chosen ∙ ap setUnitOrder read
 
   module _ {b : Bool} (test : b ≡ textFits t) where
     pub text-fits : b ≡ true → orders.Text ≡ textOrder t
@@ -146,20 +158,26 @@ module _ (on : Bool) (l : List ℕ) {w u : List ℕ} (name : w ≡ firstWord l) 
   pub profile-line : p ≡ true → r ≡ numbersOrder u → r ≡ namedOrder on l
   profile-line e order = rw (← name, ← rest, ← profile, e) order
 
-  module _ (no-profile : p ≡ false) {t : Bool} (text : t ≡ sameText w (ascii "text")) where
-    pub text-line : t ≡ true → r ≡ textOrder u → r ≡ namedOrder on l
-    text-line e order = rw (← name, ← rest, ← profile, no-profile, ← text, e) order
+  module _ (no-profile : p ≡ false) {v : Bool} (unit : v ≡ sameText w (ascii "unit")) where
+    pub unit-line : v ≡ true → r ≡ unitOrder u → r ≡ namedOrder on l
+    unit-line e order = rw (← name, ← rest, ← profile, no-profile, ← unit, e) order
 
-    module _ (no-text : t ≡ false) {m : Bool} (room : m ≡ sameText w (ascii "room")) where
-      pub room-line : m ≡ true → r ≡ roomOrder u → r ≡ namedOrder on l
-      room-line e order = rw (← name, ← rest, ← profile, no-profile, ← text, no-text, ← room, e) order
+    module _ (no-unit : v ≡ false) {t : Bool} (text : t ≡ sameText w (ascii "text")) where
+      pub text-line : t ≡ true → r ≡ textOrder u → r ≡ namedOrder on l
+      text-line e order = rw (← name, ← rest, ← profile, no-profile, ← unit, no-unit, ← text, e) order
 
-      module _ (no-room : m ≡ false) where
-        pub call-line : (on && eqb (length w) 1) ≡ true → r ≡ callOrder l → r ≡ namedOrder on l
-        call-line e order = rw (← name, ← rest, ← profile, no-profile, ← text, no-text, ← room, no-room, e) order
+      module _ (no-text : t ≡ false) {m : Bool} (room : m ≡ sameText w (ascii "room")) where
+        pub room-line : m ≡ true → r ≡ roomOrder u → r ≡ namedOrder on l
+        room-line e order = rw (← name, ← rest, ← profile, no-profile, ← unit, no-unit, ← text, no-text, ← room, e) order
 
-        pub no-line : (on && eqb (length w) 1) ≡ false → r ≡ orders.Unknown → r ≡ namedOrder on l
-        no-line e order = rw (← name, ← rest, ← profile, no-profile, ← text, no-text, ← room, no-room, e) order
+        module _ (no-room : m ≡ false) where
+          pub call-line : (on && eqb (length w) 1) ≡ true → r ≡ callOrder l → r ≡ namedOrder on l
+          call-line e order =
+              rw (← name, ← rest, ← profile, no-profile, ← unit, no-unit, ← text, no-text, ← room, no-room, e) order
+
+          pub no-line : (on && eqb (length w) 1) ≡ false → r ≡ orders.Unknown → r ≡ namedOrder on l
+          no-line e order =
+              rw (← name, ← rest, ← profile, no-profile, ← unit, no-unit, ← text, no-text, ← room, no-room, e) order
 
 -- ---- any line
 

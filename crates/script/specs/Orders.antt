@@ -11,12 +11,13 @@ use Rattle.text.specs.Searching.{hasByte}
 use Rattle.script.specs.declared.number.LoadRead.{LoadRead}
 use Rattle.script.specs.declared.number.LoadRead.the-variants.{Within, Beyond}
 use Rattle.script.specs.declared.order.Order.{Order}
-use Rattle.script.specs.declared.order.Order.the-variants.{Nothing, On, State, Numbers, Text, Room, Bytes, Buffer, Sample, Unknown}
+use Rattle.script.specs.declared.order.Order.the-variants.{Nothing, On, State, Numbers, Unit, Text, Room, Bytes, Buffer, Sample, Unknown}
 use Rattle.script.specs.declared.profile.Numbers as fields
+use Rattle.script.specs.declared.profile.UnitNumbers.{UnitNumbers}
 use Rattle.script.specs.Hex.{areHex, hexByte}
 use Rattle.script.specs.Marked.{areMarked}
 use Rattle.script.specs.Numbers.{numberOf, loadOf}
-use Rattle.script.specs.Settings.{numbersIn, areNumbers, textFits}
+use Rattle.script.specs.Settings.{numbersIn, areNumbers, unitNumbersIn, areUnitNumbers, textFits}
 use Rattle.script.specs.Words.{firstWord, afterWord, spacesIn}
 
 -- ---- the lines that set
@@ -26,6 +27,12 @@ setOrder n = cond (areNumbers n) (Numbers n) Unknown
 
 abbrev pub numbersOrder : List ℕ → Order
 numbersOrder rest = setOrder (numbersIn rest)
+
+abbrev pub setUnitOrder : UnitNumbers → Order
+setUnitOrder n = cond (areUnitNumbers n) (Unit n) Unknown
+
+abbrev pub unitOrder : List ℕ → Order
+unitOrder rest = setUnitOrder (unitNumbersIn rest)
 
 abbrev pub textOrder : List ℕ → Order
 textOrder rest = cond (textFits rest) Text Unknown
@@ -71,9 +78,10 @@ bufferOrder l = cond (areMarked (spacesIn l) (afterWord l)) (lentOrder (firstWor
 abbrev pub namedOrder : Bool → List ℕ → Order
 namedOrder on l =
     cond (sameText (firstWord l) (ascii "profile")) (numbersOrder (afterWord l))
+    (cond (sameText (firstWord l) (ascii "unit")) (unitOrder (afterWord l))
     (cond (sameText (firstWord l) (ascii "text")) (textOrder (afterWord l))
     (cond (sameText (firstWord l) (ascii "room")) (roomOrder (afterWord l))
-    (cond (on && eqb (length (firstWord l)) 1) (callOrder l) Unknown)))
+    (cond (on && eqb (length (firstWord l)) 1) (callOrder l) Unknown))))
 
 -- an empty line or a comment
 abbrev pub isPassedOver : List ℕ → Bool

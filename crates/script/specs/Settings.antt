@@ -4,15 +4,17 @@ use Prim.Native.Nat.{ℕ}
 use mathlib.Core.Bool.{Bool, true, false, cond, _&&_, _||_}
 use mathlib.Core.List.{List}
 use lib.Dec.{leb, eqb}
-use lib.ListN.{length, getD, drop}
+use lib.ListN.{length, getD, drop, set}
 use Rattle.model.specs.declared.profile.Profile.{Profile}
 use Rattle.weight.specs.declared.units.WeightUnit.{WeightUnit}
 use Rattle.weight.specs.declared.units.WeightUnit.the-variants.{G}
 use Rattle.text.specs.declared.unit_texts.UnitRead.{UnitRead}
 use Rattle.text.specs.declared.unit_texts.UnitRead.the-variants.{Named, Unknown}
 use Rattle.weight.specs.Characters.{space}
+use Rattle.weight.specs.Units.{unitPlace}
 use Rattle.text.specs.UnitTexts.{unitNamed}
 use Rattle.script.specs.declared.profile.Numbers.{Numbers}
+use Rattle.script.specs.declared.profile.UnitNumbers.{UnitNumbers}
 use Rattle.script.specs.Numbers.{numberOf}
 use Rattle.script.specs.Words.{afterWords, wordAt}
 
@@ -21,18 +23,47 @@ use Rattle.script.specs.Words.{afterWords, wordAt}
 abbrev pub numberAt : ℕ → List ℕ → ℕ
 numberAt n t = numberOf (wordAt n t)
 
--- C, U, R, W, the unit, D and K; the last is all that is left
+-- C, U, R and W; the last is all that is left
 abbrev pub numbersIn : List ℕ → Numbers
 numbersIn t =
     record {
       capacity = numberAt 0 t;
       underload = numberAt 1 t;
       zeroing = numberAt 2 t;
-      timeout = numberAt 3 t;
-      unit = unitNamed (wordAt 4 t);
-      decimals = numberAt 5 t;
-      step = numberOf (afterWords 6 t);
+      timeout = numberOf (afterWords 3 t);
     }
+
+abbrev pub inWord : ℕ → Bool
+inWord n = leb n 4_294_967_295
+
+-- each is a number of its width
+abbrev pub areNumbers : Numbers → Bool
+areNumbers n = inWord (n .capacity) && inWord (n .underload) && inWord (n .zeroing) && inWord (n .timeout)
+
+-- 0 where it is none of its width, which the test above refuses
+abbrev pub wordOf : ℕ → ℕ
+wordOf n = cond (inWord n) n 0
+
+-- the profile with these numbers and all else its own
+abbrev pub withNumbers : Profile → Numbers → Profile
+withNumbers p n =
+    record {
+      capacity = wordOf (n .capacity);
+      underload = wordOf (n .underload);
+      zeroing = wordOf (n .zeroing);
+      timeout = wordOf (n .timeout);
+      readability = p .readability;
+      model = p .model;
+      software = p .software;
+      serial = p .serial;
+      release = p .release;
+    }
+
+-- ---- the decimals and the step of a unit
+
+-- the unit, D and K; the last is all that is left
+abbrev pub unitNumbersIn : List ℕ → UnitNumbers
+unitNumbersIn t = record { unit = unitNamed (wordAt 0 t); decimals = numberAt 1 t; step = numberOf (afterWords 2 t) }
 
 abbrev pub isNamed : UnitRead → Bool
 isNamed (Named u) = true
@@ -42,39 +73,25 @@ abbrev pub namedUnit : UnitRead → WeightUnit
 namedUnit (Named u) = u
 namedUnit Unknown = G
 
-abbrev pub inWord : ℕ → Bool
-inWord n = leb n 4_294_967_295
-
 abbrev pub inByte : ℕ → Bool
 inByte n = leb n 255
 
--- each is a number of its width
-abbrev pub areNumbers : Numbers → Bool
-areNumbers n =
-    inWord (n .capacity)
-    && inWord (n .underload)
-    && inWord (n .zeroing)
-    && inWord (n .timeout)
-    && isNamed (n .unit)
-    && inByte (n .decimals)
-    && inByte (n .step)
-
--- 0 where it is none of its width, which the test above refuses
-abbrev pub wordOf : ℕ → ℕ
-wordOf n = cond (inWord n) n 0
+abbrev pub areUnitNumbers : UnitNumbers → Bool
+areUnitNumbers n = isNamed (n .unit) && inByte (n .decimals) && inByte (n .step)
 
 abbrev pub byteOf : ℕ → ℕ
 byteOf n = cond (inByte n) n 0
 
--- the profile with these numbers and its own texts
-abbrev pub withNumbers : Profile → Numbers → Profile
-withNumbers p n =
+-- the profile with these in the row of that unit and all else its own
+abbrev pub withUnit : Profile → UnitNumbers → Profile
+withUnit p n =
     record {
-      capacity = wordOf (n .capacity);
-      underload = wordOf (n .underload);
-      zeroing = wordOf (n .zeroing);
-      timeout = wordOf (n .timeout);
-      resolution = record { unit = namedUnit (n .unit); decimals = byteOf (n .decimals); step = byteOf (n .step) };
+      capacity = p .capacity;
+      underload = p .underload;
+      zeroing = p .zeroing;
+      timeout = p .timeout;
+      readability =
+          set (p .readability) (unitPlace (namedUnit (n .unit))) (record { decimals = byteOf (n .decimals); step = byteOf (n .step) });
       model = p .model;
       software = p .software;
       serial = p .serial;

@@ -2,7 +2,7 @@
 ghost use mathlib.Core.Path.{_≡_};
 ghost use Prim.Native.Nat.{_≤_};
 ghost use lib.ListN.{length};
-ghost use Rattle.script.specs.Orders.{numbersOrder, textOrder, roomOrder, hexOrder, loadOrder, callOrder, lentOrder, bufferOrder, namedOrder, orderOf, commandByte, sentByte};
+ghost use Rattle.script.specs.Orders.{numbersOrder, unitOrder, textOrder, roomOrder, hexOrder, loadOrder, callOrder, lentOrder, bufferOrder, namedOrder, orderOf, commandByte, sentByte};
 ghost use Rattle.script.specs.Words.{firstWord};
 use crate::hex::are_bytes;
 use crate::hex::hex_byte;
@@ -11,8 +11,11 @@ use crate::number::LoadRead;
 use crate::number::load_of;
 use crate::number::number;
 use crate::profile::Numbers;
+use crate::profile::UnitNumbers;
 use crate::profile::are_numbers;
+use crate::profile::are_unit_numbers;
 use crate::profile::read_numbers;
+use crate::profile::read_unit_numbers;
 use crate::profile::text_fits;
 use crate::words::after_word;
 use crate::words::first_word;
@@ -33,6 +36,8 @@ pub enum Order {
     State,
     // Other numbers in the profile.
     Numbers(Numbers),
+    // Other decimals and another step of a unit in the profile.
+    Unit(UnitNumbers),
     // Another text in the profile.
     Text,
     // The length of the buffer that is lent.
@@ -52,6 +57,16 @@ fn numbers_order(rest: &[u8]) -> Order
     let numbers = read_numbers(rest);
     if are_numbers(numbers) {
         return Order::Numbers(numbers);
+    }
+    Order::Unknown
+}
+
+fn unit_order(rest: &[u8]) -> Order
+    ensures { λ r. ⌜ r ≡ unitOrder (now (rest .entry)) ⌝ }
+{
+    let numbers = read_unit_numbers(rest);
+    if are_unit_numbers(numbers) {
+        return Order::Unit(numbers);
     }
     Order::Unknown
 }
@@ -150,6 +165,9 @@ fn named_order(on: bool, line: &[u8]) -> Order
     let rest = after_word(line);
     if same_text(name, b"profile") {
         return numbers_order(rest);
+    }
+    if same_text(name, b"unit") {
+        return unit_order(rest);
     }
     if same_text(name, b"text") {
         return text_order(rest);

@@ -2,28 +2,33 @@
 ghost use mathlib.Core.Path.{_≡_};
 ghost use Rattle.script.specs.Numbers.{numberOf};
 ghost use Rattle.script.specs.Words.{firstWord};
-ghost use Rattle.script.specs.Settings.{numbersIn, isNamed, namedUnit, areNumbers, wordOf, byteOf, withNumbers, roomOf, textFits};
+ghost use Rattle.script.specs.Settings.{numbersIn, areNumbers, wordOf, withNumbers, unitNumbersIn, isNamed, namedUnit, areUnitNumbers, byteOf, withUnit, roomOf, textFits};
 use crate::number::number;
 use crate::words::after_word;
 use crate::words::first_word;
 use crate::words::from;
 use model::Profile;
+use model::Readability;
 use text::UnitRead;
 use text::byte_at;
 use text::read_unit;
-use weight::Resolution;
 use weight::WeightUnit;
+use weight::place_of;
 
 const LARGEST_WORD: u64 = 4_294_967_295;
 
 const LARGEST_BYTE: u64 = 255;
 
-// C, U, R, W, the unit, D and K, as they stand in a line.
+// C, U, R and W, as they stand in a line.
 pub struct Numbers {
     pub capacity: u64,
     pub underload: u64,
     pub zeroing: u64,
     pub timeout: u64,
+}
+
+// A unit and its D and K, as they stand in a line.
+pub struct UnitNumbers {
     pub unit: UnitRead,
     pub decimals: u64,
     pub step: u64,
@@ -35,21 +40,57 @@ fn first_number(text: &[u8]) -> u64
     number(first_word(text))
 }
 
-// Each local begins with the number or the unit that it is named for.
+// Each local begins with the number that it is named for.
 pub fn read_numbers(text: &[u8]) -> Numbers
     ensures { λ r. ⌜ r ≡ numbersIn (now (text .entry)) ⌝ }
 {
     let underload = after_word(text);
     let zeroing = after_word(underload);
-    let timeout = after_word(zeroing);
-    let unit = after_word(timeout);
-    let decimals = after_word(unit);
     Numbers {
         capacity: first_number(text),
         underload: first_number(underload),
         zeroing: first_number(zeroing),
-        timeout: first_number(timeout),
-        unit: read_unit(first_word(unit)),
+        timeout: number(after_word(zeroing)),
+    }
+}
+
+// Each is a number of its width.
+pub fn are_numbers(numbers: Numbers) -> bool
+    ensures { λ r. ⌜ r ≡ areNumbers numbers ⌝ }
+{
+    (numbers.capacity <= LARGEST_WORD)
+        & (numbers.underload <= LARGEST_WORD)
+        & (numbers.zeroing <= LARGEST_WORD)
+        & (numbers.timeout <= LARGEST_WORD)
+}
+
+fn word_of(n: u64) -> u32
+    ensures { λ r. ⌜ r ≡ wordOf n ⌝ }
+{
+    if n <= LARGEST_WORD {
+        return n as u32;
+    }
+    0
+}
+
+// The profile with these numbers and all else its own.
+pub fn with_numbers(profile: Profile, numbers: Numbers) -> Profile
+    ensures { λ r. ⌜ r ≡ withNumbers profile numbers ⌝ }
+{
+    let mut next = profile;
+    next.capacity = word_of(numbers.capacity);
+    next.underload = word_of(numbers.underload);
+    next.zeroing = word_of(numbers.zeroing);
+    next.timeout = word_of(numbers.timeout);
+    next
+}
+
+pub fn read_unit_numbers(text: &[u8]) -> UnitNumbers
+    ensures { λ r. ⌜ r ≡ unitNumbersIn (now (text .entry)) ⌝ }
+{
+    let decimals = after_word(text);
+    UnitNumbers {
+        unit: read_unit(first_word(text)),
         decimals: first_number(decimals),
         step: number(after_word(decimals)),
     }
@@ -73,27 +114,11 @@ fn named_unit(read: UnitRead) -> WeightUnit
     }
 }
 
-// Each is a number of its width.
-pub fn are_numbers(numbers: Numbers) -> bool
-    ensures { λ r. ⌜ r ≡ areNumbers numbers ⌝ }
+pub fn are_unit_numbers(numbers: UnitNumbers) -> bool
+    ensures { λ r. ⌜ r ≡ areUnitNumbers numbers ⌝ }
 {
     let read = numbers.unit;
-    (numbers.capacity <= LARGEST_WORD)
-        & (numbers.underload <= LARGEST_WORD)
-        & (numbers.zeroing <= LARGEST_WORD)
-        & (numbers.timeout <= LARGEST_WORD)
-        & is_named(read)
-        & (numbers.decimals <= LARGEST_BYTE)
-        & (numbers.step <= LARGEST_BYTE)
-}
-
-fn word_of(n: u64) -> u32
-    ensures { λ r. ⌜ r ≡ wordOf n ⌝ }
-{
-    if n <= LARGEST_WORD {
-        return n as u32;
-    }
-    0
+    is_named(read) & (numbers.decimals <= LARGEST_BYTE) & (numbers.step <= LARGEST_BYTE)
 }
 
 fn byte_of(n: u64) -> u8
@@ -105,22 +130,19 @@ fn byte_of(n: u64) -> u8
     0
 }
 
-// The profile with these numbers and its own texts.
-pub fn with_numbers(profile: Profile, numbers: Numbers) -> Profile
-    ensures { λ r. ⌜ r ≡ withNumbers profile numbers ⌝ }
+// The profile with these in the row of that unit and all else its own.
+pub fn with_unit(profile: Profile, numbers: UnitNumbers) -> Profile
+    ensures { λ r. ⌜ r ≡ withUnit profile numbers ⌝ }
 {
     let read = numbers.unit;
-    let resolution = Resolution {
-        unit: named_unit(read),
+    let place = place_of(named_unit(read)) as usize;
+    let mut rows = profile.readability;
+    rows[place] = Readability {
         decimals: byte_of(numbers.decimals),
         step: byte_of(numbers.step),
     };
     let mut next = profile;
-    next.capacity = word_of(numbers.capacity);
-    next.underload = word_of(numbers.underload);
-    next.zeroing = word_of(numbers.zeroing);
-    next.timeout = word_of(numbers.timeout);
-    next.resolution = resolution;
+    next.readability = rows;
     next
 }
 

@@ -1,16 +1,21 @@
-// The state of power-on with one thing changed.
+// The state of power-on with one thing changed, and profile A with one.
 use model::Display;
 use model::Mode;
 use model::Pending;
+use model::Profile;
+use model::Readability;
 use model::Sending;
 use model::State;
 use model::Text20;
 use model::Waiting;
+use model::Weighing;
 use model::start_state;
+use profiles::profile_a;
 use weight::Load;
 use weight::Micrograms;
 use weight::Tare;
 use weight::Threshold;
+use weight::WeightUnit;
 
 pub fn zeroed(zero: i32) -> State {
     let mut state = start_state();
@@ -26,6 +31,20 @@ pub fn tared(tare: u32) -> State {
     let mut weighing = state.weighing;
     let changed = Tare(tare);
     weighing.tare = changed;
+    state.weighing = weighing;
+    state
+}
+
+pub fn in_unit(unit: WeightUnit) -> State {
+    let mut state = start_state();
+    let weighing = Weighing {
+        zero: Load(0),
+        tare: Tare(0),
+        load: Load(0),
+        unit,
+        stable: false,
+        sampled: false,
+    };
     state.weighing = weighing;
     state
 }
@@ -94,4 +113,22 @@ pub fn change_waited(threshold: u32, unstable: u32) -> State {
     let waiting = Waiting { pending, unstable };
     state.waiting = waiting;
     state
+}
+
+// Another capacity.
+pub fn bearing(capacity: u32) -> Profile {
+    let mut profile = profile_a();
+    profile.capacity = capacity;
+    profile
+}
+
+// Other decimals, and the step 1, at a place in the order of the units.
+pub fn showing(place: usize, decimals: u8) -> Profile {
+    let mut profile = profile_a();
+    let mut rows = profile.readability;
+    if place < 9 {
+        rows[place] = Readability { decimals, step: 1 };
+    }
+    profile.readability = rows;
+    profile
 }

@@ -74,7 +74,7 @@ fn say(label: &[u8], first: Tried, second: Tried) {
 }
 
 fn send_byte(state: State, seed: u8) -> Tried {
-    let mut out = [0u8; 256];
+    let mut out = [0u8; 384];
     fill(&mut out, seed);
     let called = take_byte(profile_a(), state, b'S', false, &mut out);
     seen(called, seed, &out)
@@ -106,7 +106,7 @@ fn lend(out: &mut [u8], room: usize) -> &mut [u8] {
 }
 
 fn send_sample(state: State, room: usize, seed: u8) -> Tried {
-    let mut out = [0u8; 256];
+    let mut out = [0u8; 384];
     fill(&mut out, seed);
     let called = take_sample(profile_a(), state, Load(0), true, lend(&mut out, room));
     seen(called, seed, &out)
@@ -122,7 +122,7 @@ pub fn try_sample(label: &[u8], state: State, room: usize) {
 }
 
 fn switch_on(profile: Profile, state: State, room: usize, seed: u8) -> Tried {
-    let mut out = [0u8; 256];
+    let mut out = [0u8; 384];
     fill(&mut out, seed);
     let called = power_on(profile, state, lend(&mut out, room));
     seen(called, seed, &out)
@@ -176,7 +176,7 @@ fn send_bytes(
     room: usize,
     seed: u8,
 ) -> TriedBytes {
-    let mut out = [0u8; 256];
+    let mut out = [0u8; 384];
     fill(&mut out, seed);
     let returned = take_bytes(profile, state, bytes, marks, lend(&mut out, room));
     seen_bytes(returned, seed, &out)

@@ -5,12 +5,15 @@
 mod build;
 mod call;
 
+use build::bearing;
 use build::change_waited;
 use build::changing;
 use build::displayed;
 use build::held;
+use build::in_unit;
 use build::left_behind;
 use build::repeated;
+use build::showing;
 use build::tared;
 use build::waited;
 use build::zeroed;
@@ -20,8 +23,10 @@ use call::try_sample;
 use call::try_state;
 use call::try_text;
 use model::Pending;
+use model::Profile;
 use model::start_state;
 use profiles::profile_a;
+use weight::WeightUnit;
 
 fn weighings() {
     try_state(b"zero 4400000: ", zeroed(4_400_000));
@@ -31,7 +36,20 @@ fn weighings() {
     try_state(b"tare 220000000: ", tared(220_000_000));
     try_state(b"tare 220000001: ", tared(220_000_001));
     try_state(b"tare 4294967295: ", tared(4_294_967_295));
-    try_sample(b"tare 4294967295, a sample: ", tared(4_294_967_295), 256);
+    try_sample(b"tare 4294967295, a sample: ", tared(4_294_967_295), 384);
+}
+
+// An enum of nine has no unit outside them.
+fn units() {
+    try_state(b"g in force: ", in_unit(WeightUnit::G));
+    try_state(b"mg in force: ", in_unit(WeightUnit::Mg));
+    try_state(b"ct in force: ", in_unit(WeightUnit::Ct));
+    try_state(b"oz in force: ", in_unit(WeightUnit::Oz));
+    try_state(b"ozt in force: ", in_unit(WeightUnit::Ozt));
+    try_state(b"GN in force: ", in_unit(WeightUnit::Gn));
+    try_state(b"dwt in force: ", in_unit(WeightUnit::Dwt));
+    try_state(b"kg in force: ", in_unit(WeightUnit::Kg));
+    try_state(b"lb in force: ", in_unit(WeightUnit::Lb));
 }
 
 fn lines() {
@@ -118,9 +136,9 @@ fn samples() {
         18,
     );
     try_sample(
-        b"S waiting, a sample, room 256: ",
+        b"S waiting, a sample, room 384: ",
         waited(Pending::Weigh, 2),
-        256,
+        384,
     );
     try_sample(
         b"S waiting, 3 counted, a sample, no room: ",
@@ -169,6 +187,58 @@ fn orders() {
     );
 }
 
+fn switch_on(label: &[u8], profile: Profile) {
+    try_room(label, profile, start_state(), 16);
+}
+
+// A profile is tested in all nine units; g is in force. Of profile A's, mg is the first whose nets are too wide.
+fn profiles_of_units() {
+    switch_on(b"power on, capacity 998999994: ", bearing(998_999_994));
+    switch_on(b"power on, capacity 998999995: ", bearing(998_999_995));
+    switch_on(b"power on, g with 7 decimals: ", showing(0, 7));
+    switch_on(b"power on, mg with 4 decimals: ", showing(1, 4));
+    switch_on(b"power on, ct with 6 decimals: ", showing(2, 6));
+    switch_on(b"power on, oz with 7 decimals: ", showing(3, 7));
+    switch_on(b"power on, ozt with 7 decimals: ", showing(4, 7));
+    switch_on(b"power on, GN with 5 decimals: ", showing(5, 5));
+    switch_on(b"power on, GN with 4 decimals: ", showing(5, 4));
+    switch_on(b"power on, dwt with 7 decimals: ", showing(6, 7));
+    switch_on(b"power on, kg with 7 decimals: ", showing(7, 7));
+    switch_on(b"power on, lb with 7 decimals: ", showing(8, 7));
+}
+
+fn try_byte(label: &[u8], profile: Profile, unit: WeightUnit) {
+    try_lengths(label, profile, in_unit(unit), 1, 1);
+}
+
+fn units_not_in_force() {
+    try_byte(
+        b"1 byte, GN with 5 decimals, g in force: ",
+        showing(5, 5),
+        WeightUnit::G,
+    );
+    try_byte(
+        b"1 byte, GN with 5 decimals, GN in force: ",
+        showing(5, 5),
+        WeightUnit::Gn,
+    );
+    try_byte(
+        b"1 byte, GN with 5 decimals, lb in force: ",
+        showing(5, 5),
+        WeightUnit::Lb,
+    );
+    try_byte(
+        b"1 byte, lb with 6 decimals, kg in force: ",
+        showing(8, 6),
+        WeightUnit::Kg,
+    );
+    try_byte(
+        b"1 byte, lb with 7 decimals, kg in force: ",
+        showing(8, 7),
+        WeightUnit::Kg,
+    );
+}
+
 // First that applies: profile, state, lengths.
 fn refused_buffers() {
     let mut refused = profile_a();
@@ -214,17 +284,22 @@ fn lengths() {
     try_lengths(b"4096 bytes, no room: ", profile_a(), state, 4096, 4096);
 }
 
-// Without a sample SI is answered by five bytes.
+// Without a sample SI is answered by five bytes, M21 always by eleven, I0 by 258.
 fn rooms() {
     try_text(b"SI twice, room 4: ", b"SI\r\nSI\r\n", 4);
     try_text(b"SI twice, room 5: ", b"SI\r\nSI\r\n", 5);
     try_text(b"SI twice, room 9: ", b"SI\r\nSI\r\n", 9);
     try_text(b"SI twice, room 10: ", b"SI\r\nSI\r\n", 10);
-    try_text(b"SI twice, room 256: ", b"SI\r\nSI\r\n", 256);
+    try_text(b"SI twice, room 384: ", b"SI\r\nSI\r\n", 384);
+    try_text(b"M21, room 10: ", b"M21\r\n", 10);
+    try_text(b"M21, room 11: ", b"M21\r\n", 11);
+    try_text(b"I0, room 257: ", b"I0\r\n", 257);
+    try_text(b"I0, room 258: ", b"I0\r\n", 258);
 }
 
 fn main() {
     weighings();
+    units();
     lines();
     displays();
     waits();
@@ -233,6 +308,8 @@ fn main() {
     samples();
     changed_samples();
     orders();
+    profiles_of_units();
+    units_not_in_force();
     refused_buffers();
     lengths();
     rooms();

@@ -21,5 +21,7 @@ pub use typed::read_preset;
 pub use typed::read_typed;
 pub use unit_texts::UnitRead;
 pub use unit_texts::is_unit;
+pub use unit_texts::read_code;
 pub use unit_texts::read_unit;
+pub use unit_texts::unit_code;
 pub use unit_texts::unit_text;

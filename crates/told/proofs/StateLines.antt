@@ -1,6 +1,6 @@
 -- The words of a state's line by the pieces that the code lays.
 -- Assumes nothing.
-use mathlib.Core.Path.{_≡_}
+use mathlib.Core.Path.{_≡_, _∙_}
 use mathlib.Core.Bool.{true, false}
 use mathlib.Core.List.{List}
 use Prim.Native.Nat.{ℕ}
@@ -11,10 +11,15 @@ use Rattle.model.specs.declared.state.Display.{Display}
 use Rattle.model.specs.declared.state.Pending.{Pending}
 use Rattle.model.specs.declared.state.Waiting.{Waiting}
 use Rattle.model.specs.declared.weighing.Weighing.{Weighing}
+use Rattle.text.specs.declared.short.ShortText.{ShortText}
 use Rattle.text.specs.Ascii.{ascii}
+use Rattle.text.specs.Short.{shortOf}
+use Rattle.text.specs.UnitTexts.{unitText}
+use Rattle.text.proofs.Cells.{cells-text}
 use Rattle.weight.specs.declared.changes.Threshold.{Threshold}
+use Rattle.weight.specs.declared.units.WeightUnit.{WeightUnit}
 use Rattle.told.specs.Laying.{Laid}
-use Rattle.told.specs.StateLines.{loadText, sampleWord, waitsFor, waitsWord, repeatsAs, repeatsWord, showsWord}
+use Rattle.told.specs.StateLines.{loadText, sampleWord, waitsFor, waitsWord, repeatsAs, repeatsWord, showsWord, unitWord}
 use Rattle.told.proofs.Laying.{laid-as, _then_}
 
 -- ---- the sample
@@ -56,3 +61,10 @@ pub laid-text : {d e f g t : List ℕ} {a b c k : ℕ} (x : Display) → x .show
     → Laid d a (ascii " shows \"") e b → Laid e b t f c → Laid f c (ascii "\"") g k → Laid d a (showsWord x) g k
 unfolding showsWord
 laid-text x s same l m n = laid-as (rw s) (l then laid-as same m then n)
+
+-- ---- the unit
+
+pub laid-unit : {d e f t : List ℕ} {a b c : ℕ} (u : WeightUnit) (written : ShortText) → written ≡ shortOf (unitText u)
+    → t ≡ take (written .len) (drop 0 (written .cells)) → Laid d a (ascii " unit ") e b → Laid e b t f c → Laid d a (unitWord u) f c
+unfolding unitWord
+laid-unit u written is same l k = l then laid-as (same ∙ cells-text written (unitText u) is) k

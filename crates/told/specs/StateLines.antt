@@ -16,10 +16,12 @@ use Rattle.model.specs.declared.state.State.{State}
 use Rattle.model.specs.declared.state.Waiting.{Waiting}
 use Rattle.model.specs.declared.weighing.Weighing.{Weighing}
 use Rattle.text.specs.Ascii.{ascii}
+use Rattle.text.specs.UnitTexts.{unitText}
 use Rattle.weight.specs.declared.amount.Tare as T
 use Rattle.weight.specs.declared.changes.Threshold.{Threshold}
 use Rattle.weight.specs.declared.loads.Load.{Load}
 use Rattle.weight.specs.declared.rounding.Micrograms.{Micrograms}
+use Rattle.weight.specs.declared.units.WeightUnit.{WeightUnit}
 use Rattle.weight.specs.Places.{digitsOf, numberText}
 
 -- an amount in micrograms, a minus directly before the digits if it is below zero
@@ -91,6 +93,10 @@ lineWord l =
     ++ onlyIf (l .faulty) (ascii " faulty")
     ++ onlyIf (l .returned) (ascii " cr")
 
+-- the unit in force
+unfoldable pub unitWord : WeightUnit → List ℕ
+unitWord u = ascii " unit " ++ unitText u
+
 unfoldable pub stateLine : State → List ℕ
 stateLine s =
     ascii "state"
@@ -101,4 +107,5 @@ stateLine s =
     ++ repeatsWord (s .sending)
     ++ showsWord (s .display)
     ++ lineWord (s .line)
+    ++ unitWord (s .weighing .unit)
     ++ ascii "\r\n"

@@ -3,7 +3,7 @@ ghost use mathlib.Core.Path.{_≡_};
 ghost use mathlib.Core.List.{_++_};
 ghost use Rattle.told.specs.Laying.{Laid, laidOver, laidCount};
 ghost use Rattle.told.specs.StateLines.{zeroWord, tareWord, sampleWord, waitsFor, waitsWord, changeText, repeatsWord};
-ghost use Rattle.told.specs.StateLines.{showsWord, lineWord, stateLine};
+ghost use Rattle.told.specs.StateLines.{showsWord, lineWord, unitWord, stateLine};
 ghost use Rattle.weight.specs.Places.{digitsOf};
 use crate::words::put;
 use crate::words::put_amount;
@@ -20,9 +20,11 @@ use model::State;
 use model::Waiting;
 use model::Weighing;
 use text::part;
+use text::unit_text;
 use weight::Load;
 use weight::Tare;
 use weight::Threshold;
+use weight::WeightUnit;
 
 fn put_zero(line: &mut [u8], at: usize, zero: Load) -> usize
     ensures { λ r. ⌜ Laid (now (line .entry)) at (zeroWord zero) (now (line .exit)) r ⌝ }
@@ -132,7 +134,16 @@ fn put_line(line: &mut [u8], at: usize, received: Line) -> usize
     put_if(line, returned, received.returned, b" cr")
 }
 
-// The line of a state, as far as there are places: the longest has 197 bytes. Answers how many it has.
+fn put_unit(line: &mut [u8], at: usize, unit: WeightUnit) -> usize
+    ensures { λ r. ⌜ Laid (now (line .entry)) at (unitWord unit) (now (line .exit)) r ⌝ }
+{
+    let written = unit_text(unit);
+    let cells = written.cells;
+    let next = put(line, at, b" unit ");
+    put(line, next, part(&cells, 0, written.len))
+}
+
+// The line of a state, as far as there are places: the longest has 206 bytes. Answers how many it has.
 pub fn put_state(state: State, line: &mut [u8]) -> usize
     ensures { λ r. ⌜ r ≡ laidCount (stateLine state) (now (line .entry)) ⌝ }
     ensures { λ r. ⌜ now (line .exit) ≡ laidOver (stateLine state) (now (line .entry)) ⌝ }
@@ -140,6 +151,7 @@ pub fn put_state(state: State, line: &mut [u8]) -> usize
     let weighing = state.weighing;
     let zero = weighing.zero;
     let tare = weighing.tare;
+    let unit = weighing.unit;
     let waiting = state.waiting;
     let sending = state.sending;
     let threshold = sending.threshold;
@@ -153,5 +165,6 @@ pub fn put_state(state: State, line: &mut [u8]) -> usize
     at = put_sending(line, at, sending);
     at = put_display(line, at, display);
     at = put_line(line, at, received);
+    at = put_unit(line, at, unit);
     put(line, at, b"\r\n")
 }

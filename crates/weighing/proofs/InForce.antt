@@ -1,4 +1,4 @@
--- The resolution in force does not move with zero, tare and sample.
+-- The resolution in force goes by the unit alone, and does not move with zero, tare and sample.
 -- Assumes nothing.
 use Prim.Native.Nat.{ℕ}
 use mathlib.Core.Path.{_≡_, refl}
@@ -12,20 +12,20 @@ use Rattle.model.specs.Profiles.{resolutionIn}
 use Rattle.weight.specs.declared.loads.Load.{Load}
 use Rattle.weighing.specs.Weighings.{chosenWeighing, grossOf, tared, withSample, withTare, withZero, zeroed, zeroedBy, taredBy}
 
--- weighings that give the same resolution
-same-resolution : (p : Profile) (w v : Weighing) → resolutionIn p w ≡ resolutionIn p v
+-- weighings in the same unit give the same resolution
+pub same-resolution : (p : Profile) (w v : Weighing) → w .unit ≡ v .unit → resolutionIn p w ≡ resolutionIn p v
 unfolding resolutionIn
-same-resolution p w v = refl
+same-resolution p w v e = rw e
 
 module _ (p : Profile) (w : Weighing) where
   pub resolution-zeroed : resolutionIn p (withZero w) ≡ resolutionIn p w
-  resolution-zeroed = same-resolution p (withZero w) w
+  resolution-zeroed = same-resolution p (withZero w) w refl
 
   pub resolution-tared : (tare : ℕ) → resolutionIn p (withTare w tare) ≡ resolutionIn p w
-  resolution-tared tare = same-resolution p (withTare w tare) w
+  resolution-tared tare = same-resolution p (withTare w tare) w refl
 
   pub resolution-sampled : (load : Load) (stable : Bool) → resolutionIn p (withSample w load stable) ≡ resolutionIn p w
-  resolution-sampled load stable = same-resolution p (withSample w load stable) w
+  resolution-sampled load stable = same-resolution p (withSample w load stable) w refl
 
   -- so Z and T leave it as it is, granted or not
   chosen : (b : Bool) (v : Weighing) → resolutionIn p v ≡ resolutionIn p w → resolutionIn p (chosenWeighing b w v) ≡ resolutionIn p w

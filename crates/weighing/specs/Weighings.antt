@@ -15,6 +15,7 @@ use Rattle.model.specs.declared.profile.Profile.{Profile}
 use Rattle.model.specs.declared.profile.Scale.{Scale}
 use Rattle.model.specs.Profiles.{scaleOf}
 use Rattle.weight.specs.declared.loads.Load.{Load}
+use Rattle.weight.specs.declared.units.WeightUnit.{WeightUnit}
 use Rattle.model.specs.declared.weighing.Weighing.{Weighing}
 use Rattle.weighing.specs.declared.weighing.Measured.{Measured}
 use Rattle.weight.specs.Printing.{printedNumber}
@@ -64,13 +65,17 @@ weighed p w = weighedBy (scaleOf p w) w
 
 -- zero becomes the load, and tare becomes 0
 abbrev pub withZero : Weighing → Weighing
-withZero w = record { zero = w .load; tare = record { 0 = 0 }; sampled = w .sampled; load = w .load; stable = w .stable }
+withZero w = record { zero = w .load; tare = record { 0 = 0 }; unit = w .unit; sampled = w .sampled; load = w .load; stable = w .stable }
 
 abbrev pub withTare : Weighing → ℕ → Weighing
-withTare w tare = record { zero = w .zero; tare = record { 0 = tare }; sampled = w .sampled; load = w .load; stable = w .stable }
+withTare w tare = record { zero = w .zero; tare = record { 0 = tare }; unit = w .unit; sampled = w .sampled; load = w .load; stable = w .stable }
 
 abbrev pub withSample : Weighing → Load → Bool → Weighing
-withSample w load stable = record { zero = w .zero; tare = w .tare; sampled = true; load = load; stable = stable }
+withSample w load stable = record { zero = w .zero; tare = w .tare; unit = w .unit; sampled = true; load = load; stable = stable }
+
+-- M21 sets the unit in force; zero, tare and sample are in micrograms, and stay
+abbrev pub withUnit : Weighing → WeightUnit → Weighing
+withUnit w u = record { zero = w .zero; tare = w .tare; unit = u; sampled = w .sampled; load = w .load; stable = w .stable }
 
 -- Z, ZI: load > R gives +, load < -R gives -; else zero becomes the load and tare becomes 0
 unfoldable pub zeroedBy : Scale → Weighing → ℕ → Status → Measured

@@ -12,4 +12,5 @@ pub use weighing::unchanged;
 pub use weighing::weighed_by;
 pub use weighing::with_sample;
 pub use weighing::with_tare;
+pub use weighing::with_unit;
 pub use weighing::zeroed_by;

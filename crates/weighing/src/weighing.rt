@@ -16,6 +16,7 @@ use weight::Micrograms;
 use weight::NO_TARE;
 use weight::Resolution;
 use weight::Tare;
+use weight::WeightUnit;
 use weight::from_load;
 use weight::from_tare;
 use weight::is_over;
@@ -119,9 +120,11 @@ fn with_zero(weighing: Weighing) -> Weighing
     ensures { λ r. ⌜ r ≡ meaning.withZero weighing ⌝ }
 {
     let load = weighing.load;
+    let unit = weighing.unit;
     Weighing {
         zero: load,
         tare: NO_TARE,
+        unit,
         sampled: weighing.sampled,
         load,
         stable: weighing.stable,
@@ -133,9 +136,11 @@ pub fn with_tare(weighing: Weighing, tare: Tare) -> Weighing
 {
     let zero = weighing.zero;
     let load = weighing.load;
+    let unit = weighing.unit;
     Weighing {
         zero,
         tare,
+        unit,
         sampled: weighing.sampled,
         load,
         stable: weighing.stable,
@@ -147,12 +152,31 @@ pub fn with_sample(weighing: Weighing, load: Load, stable: bool) -> Weighing
 {
     let zero = weighing.zero;
     let tare = weighing.tare;
+    let unit = weighing.unit;
     Weighing {
         zero,
         tare,
+        unit,
         sampled: true,
         load,
         stable,
+    }
+}
+
+// M21: nothing else moves.
+pub fn with_unit(weighing: Weighing, unit: WeightUnit) -> Weighing
+    ensures { λ r. ⌜ r ≡ meaning.withUnit weighing unit ⌝ }
+{
+    let zero = weighing.zero;
+    let tare = weighing.tare;
+    let load = weighing.load;
+    Weighing {
+        zero,
+        tare,
+        unit,
+        sampled: weighing.sampled,
+        load,
+        stable: weighing.stable,
     }
 }
 

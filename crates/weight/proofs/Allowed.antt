@@ -9,7 +9,7 @@ use mathlib.Core.Bool.{Bool, true, false, _&&_, _||_, true≢false}
 use borrow.Author.Tests.{leb-true, lt-leb, le-leb, eqb-true}
 use lib.Dec.{leb, eqb}
 use Rattle.weight.specs.declared.units.WeightUnit.{WeightUnit}
-use Rattle.weight.specs.declared.units.WeightUnit.the-variants.{G, Mg, Ct, Oz, Ozt, Gn, Dwt}
+use Rattle.weight.specs.declared.units.WeightUnit.the-variants.{G, Mg, Ct, Oz, Ozt, Gn, Dwt, Kg, Lb}
 use Rattle.weight.specs.declared.rounding.Resolution.{Resolution}
 use Rattle.weight.specs.Units.{nanogramsOf}
 use Rattle.weight.specs.Rounding.{allowedResolution}
@@ -52,13 +52,15 @@ nanograms-least Oz = omega arith
 nanograms-least Ozt = omega arith
 nanograms-least Gn = omega arith
 nanograms-least Dwt = omega arith
+nanograms-least Kg = omega arith
+nanograms-least Lb = omega arith
 
 -- so every unit weighs something
 pub nanograms-positive : (u : WeightUnit) → 0 < nanogramsOf u
 nanograms-positive u = omega (arith, nanograms-least u)
 
--- the troy ounce is the heaviest unit
-pub nanograms-limit : (u : WeightUnit) → nanogramsOf u ≤ 31_103_476_800
+-- the kilogram is the heaviest unit
+pub nanograms-limit : (u : WeightUnit) → nanogramsOf u ≤ 1_000_000_000_000
 nanograms-limit G = omega arith
 nanograms-limit Mg = omega arith
 nanograms-limit Ct = omega arith
@@ -66,6 +68,8 @@ nanograms-limit Oz = omega arith
 nanograms-limit Ozt = omega arith
 nanograms-limit Gn = omega arith
 nanograms-limit Dwt = omega arith
+nanograms-limit Kg = omega arith
+nanograms-limit Lb = omega arith
 
 -- the three tests of a resolution
 abbrev decimalsTest : Resolution → Bool
@@ -97,20 +101,17 @@ allowed-decimals r h =
     (both-left (decimalsTest r) (stepTest r) (both-left (decimalsTest r && stepTest r) (leastTest r) h))
 
 -- step 1, 2 or 5
+pub known-step : (k : ℕ) → (eqb k 1 || eqb k 2 || eqb k 5) ≡ true → (k ≡ 1) ⊎ ((k ≡ 2) ⊎ (k ≡ 5))
+known-step k h =
+    ⊎-elim
+    (λ low. ⊎-elim (λ e. inl (eqb-true _ _ e)) (λ e. inr (inl (eqb-true _ _ e))) (either-holds (eqb k 1) (eqb k 2) low))
+    (λ e. inr (inr (eqb-true _ _ e)))
+    (either-holds _ _ h)
+
 pub allowed-step : (r : Resolution) → allowedResolution r ≡ true → (r .step ≡ 1) ⊎ ((r .step ≡ 2) ⊎ (r .step ≡ 5))
 unfolding allowedResolution
 allowed-step r h =
-    ⊎-elim
-    (λ low.
-    ⊎-elim
-    (λ e. inl (eqb-true _ _ e))
-    (λ e. inr (inl (eqb-true _ _ e)))
-    (either-holds (eqb (r .step) 1) (eqb (r .step) 2) low))
-    (λ e. inr (inr (eqb-true _ _ e)))
-    (either-holds
-    _
-    _
-    (both-right (decimalsTest r) (stepTest r) (both-left (decimalsTest r && stepTest r) (leastTest r) h)))
+    known-step (r .step) (both-right (decimalsTest r) (stepTest r) (both-left (decimalsTest r && stepTest r) (leastTest r) h))
 
 -- the step is at least one microgram
 pub allowed-least-step
@@ -132,9 +133,9 @@ allowed-step-limit r h =
 pub allowed-divisor-positive : (r : Resolution) → allowedResolution r ≡ true → 0 < r .step * nanogramsOf (r .unit)
 allowed-divisor-positive r h = mul-pos (allowed-step-positive r h) (nanograms-positive (r .unit))
 
--- and at most five troy ounces, so that it stays far from what a machine word holds
+-- and at most five kilograms, so that it stays far from what a machine word holds
 pub allowed-divisor-limit
-    : (r : Resolution) → allowedResolution r ≡ true → r .step * nanogramsOf (r .unit) ≤ 155_517_384_000
+    : (r : Resolution) → allowedResolution r ≡ true → r .step * nanogramsOf (r .unit) ≤ 5_000_000_000_000
 allowed-divisor-limit r h = mul-le-mul (allowed-step-limit r h) (nanograms-limit (r .unit))
 
 -- a power of ten is positive

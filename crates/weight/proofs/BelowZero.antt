@@ -45,10 +45,10 @@ step-divides : (r : Resolution) → allowedResolution r ≡ true → 100_000_000
 step-divides r h = ⊎-elim (λ e. rw e) (λ e. ⊎-elim (λ e. rw e) (λ e. rw e) e) (allowed-step r h)
 
 -- micrograms, before they are divided by the display step
-abbrev scaled : Resolution → ℕ → ℕ
+abbrev pub scaled : Resolution → ℕ → ℕ
 scaled r m = m * (1000 * 10 ^ (r .decimals))
 
-abbrev displayStep : Resolution → ℕ
+abbrev pub displayStep : Resolution → ℕ
 displayStep r = r .step * nanogramsOf (r .unit)
 
 module _ (r : Resolution) (m : ℕ) (allowed : allowedResolution r ≡ true) where

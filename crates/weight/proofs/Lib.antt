@@ -15,6 +15,7 @@ pub mod Presets
 mod Printable
 mod Range
 pub mod SignedPlaces
+pub mod Sure
 pub mod TypedLimit
 mod Widening
 pub mod Width

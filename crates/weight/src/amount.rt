@@ -32,6 +32,8 @@ fn most_places(unit: WeightUnit) -> u64
         WeightUnit::Ozt => 296_538_296,
         WeightUnit::Gn => 142_338_382_495,
         WeightUnit::Dwt => 5_930_765_937,
+        WeightUnit::Kg => 9_223_372,
+        WeightUnit::Lb => 20_334_054,
     }
 }
 

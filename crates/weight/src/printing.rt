@@ -1,17 +1,23 @@
 // The printed number of a net weight.
 ghost use mathlib.Core.Path.{_≡_};
-ghost use Rattle.weight.specs.Printing.{printedNumber, fitsBelowZero};
+ghost use mathlib.Core.Bool.{true, false, _&&_};
+ghost use lib.Dec.{leb};
+ghost use Prim.Native.Nat.{_≤_};
+ghost use Rattle.weight.specs.Units.{nanogramsOf};
+ghost use Rattle.weight.specs.Printing.{printedNumber, fitsBelowZero, largestReach, sureDecimals, surelyFits};
 use crate::places::fits;
 use crate::rounding::LastPlaces;
 use crate::rounding::Micrograms;
 use crate::rounding::Resolution;
 use crate::rounding::divisor_of;
 use crate::rounding::is_allowed;
+use crate::rounding::is_known_step;
 use crate::rounding::is_step_allowed;
 use crate::rounding::places_of;
 use crate::rounding::scale_of;
 use crate::rounding::size_of;
 use crate::rounding::steps_of;
+use crate::units::WeightUnit;
 use crate::units::nanograms_of;
 
 // Whether a net is printed in ten characters, and its number.
@@ -43,12 +49,11 @@ pub fn printed_number(resolution: Resolution, net: Micrograms) -> Printed
 
 // Whether a net of `size` micrograms below zero fits ten characters. Its number is below 10^8 exactly when its exact steps and half
 // a step more are below 10^8 / step, so nothing is divided. Without decimals nine digits fit, but 2^32 micrograms never need them.
-pub fn fits_below_zero(resolution: Resolution, size: u32) -> bool
+fn fits_closely(resolution: Resolution, size: u32) -> bool
+    requires { ⌜ resolution .decimals ≤ 6 ⌝ }
+    requires { ⌜ nanogramsOf (resolution .unit) ≤ 1_555_173_840 ⌝ }
     ensures { λ r. ⌜ r ≡ fitsBelowZero resolution size ⌝ }
 {
-    if 6 < resolution.decimals {
-        return false;
-    }
     let scale = scale_of(resolution.decimals);
     let divisor = divisor_of(resolution);
     if !is_step_allowed(resolution.step, scale, divisor) {
@@ -57,4 +62,80 @@ pub fn fits_below_zero(resolution: Resolution, size: u32) -> bool
     let unit = resolution.unit;
     let scaled = size as u64 * scale;
     scaled + scaled + divisor < nanograms_of(unit).0 * TWICE_PLACES_LIMIT
+}
+
+// The most that U and C of a profile give together.
+const LARGEST_REACH: u32 = 2_000_000_000;
+
+// A reach up to which every unit can have one decimal more: 600 g.
+const NEAR_REACH: u32 = 600_000_000;
+
+fn near_decimals(unit: WeightUnit) -> u8
+    ensures { λ r. ⌜ r ≡ sureDecimals true unit ⌝ }
+{
+    match unit {
+        WeightUnit::G => 5,
+        WeightUnit::Mg => 2,
+        WeightUnit::Ct => 4,
+        WeightUnit::Oz => 6,
+        WeightUnit::Ozt => 6,
+        WeightUnit::Gn => 4,
+        WeightUnit::Dwt => 5,
+        WeightUnit::Kg => 6,
+        WeightUnit::Lb => 6,
+    }
+}
+
+fn far_decimals(unit: WeightUnit) -> u8
+    ensures { λ r. ⌜ r ≡ sureDecimals false unit ⌝ }
+{
+    match unit {
+        WeightUnit::G => 4,
+        WeightUnit::Mg => 1,
+        WeightUnit::Ct => 3,
+        WeightUnit::Oz => 6,
+        WeightUnit::Ozt => 6,
+        WeightUnit::Gn => 3,
+        WeightUnit::Dwt => 4,
+        WeightUnit::Kg => 6,
+        WeightUnit::Lb => 6,
+    }
+}
+
+fn sure_decimals(unit: WeightUnit, near: bool) -> u8
+    ensures { λ r. ⌜ r ≡ sureDecimals near unit ⌝ }
+{
+    if near {
+        return near_decimals(unit);
+    }
+    far_decimals(unit)
+}
+
+// Whether so few decimals are asked for that no product has to be made: a profile is tested at every call, in each unit.
+pub fn fits_surely(resolution: Resolution, size: u32) -> bool
+    ensures { λ r. ⌜ r ≡ surelyFits resolution size ⌝ }
+{
+    let unit = resolution.unit;
+    let most = sure_decimals(unit, size <= NEAR_REACH);
+    (size <= LARGEST_REACH) & is_known_step(resolution.step) & (resolution.decimals <= most)
+}
+
+// Whether a resolution is allowed and a net of `size` micrograms below zero fits ten characters, for a size that a profile can have.
+pub fn fits_below_zero(resolution: Resolution, size: u32) -> bool
+    ensures { λ r. ⌜ r ≡ leb size largestReach && fitsBelowZero resolution size ⌝ }
+{
+    let unit = resolution.unit;
+    if LARGEST_REACH < size {
+        return false;
+    }
+    if !is_known_step(resolution.step) {
+        return false;
+    }
+    if resolution.decimals <= far_decimals(unit) {
+        return true;
+    }
+    if 6 < resolution.decimals {
+        return false;
+    }
+    fits_closely(resolution, size)
 }

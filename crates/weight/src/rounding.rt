@@ -76,12 +76,18 @@ pub fn scale_of(decimals: u8) -> u64
     }
 }
 
-// Whether a step is one of document 01's, and at least one microgram by what a rounding multiplies and divides by.
+// Whether a step is one of document 01's.
+pub fn is_known_step(step: u8) -> bool
+    ensures { λ r. ⌜ r ≡ (eqb step 1 || eqb step 2 || eqb step 5) ⌝ }
+{
+    (step == 1) | (step == 2) | (step == 5)
+}
+
+// Whether a step is one of these, and at least one microgram by what a rounding multiplies and divides by.
 pub fn is_step_allowed(step: u8, scale: u64, divisor: u64) -> bool
     ensures { λ r. ⌜ r ≡ ((eqb step 1 || eqb step 2 || eqb step 5) && leb scale divisor) ⌝ }
 {
-    let known = (step == 1) | (step == 2) | (step == 5);
-    known & (scale <= divisor)
+    is_known_step(step) & (scale <= divisor)
 }
 
 // Whether decimals and step are those of document 01, and the step is at least one microgram.

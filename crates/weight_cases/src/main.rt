@@ -12,6 +12,7 @@ mod units;
 fn main() {
     units::cases();
     nets::bench_cases();
+    nets::request_cases();
     nets::manual_cases();
     nets::range_cases();
     nets::width_cases();

@@ -57,6 +57,18 @@ pub fn bench_cases() {
     nets(WeightUnit::Gn, 5, 2, &[64_798_910]);
 }
 
+// Document 02, No. 5: one load in the eight other units, d 2, k 1.
+pub fn request_cases() {
+    nets(WeightUnit::Ct, 2, 1, &[14_256_050]);
+    nets(WeightUnit::Kg, 2, 1, &[14_256_050]);
+    nets(WeightUnit::Lb, 2, 1, &[14_256_050]);
+    nets(WeightUnit::Oz, 2, 1, &[14_256_050]);
+    nets(WeightUnit::Ozt, 2, 1, &[14_256_050]);
+    nets(WeightUnit::Gn, 2, 1, &[14_256_050]);
+    nets(WeightUnit::Dwt, 2, 1, &[14_256_050]);
+    nets(WeightUnit::Mg, 2, 1, &[14_256_050]);
+}
+
 // The weights that sources 003 and 000 print in commands and answers, each once.
 pub fn manual_cases() {
     grams(1, &[4_875_200_000]);
@@ -83,6 +95,8 @@ pub fn range_cases() {
     nets(WeightUnit::Ozt, 0, 5, &[5_000_000_000, 5_000_000_001]);
     nets(WeightUnit::Gn, 4, 1, &[5_000_000_000, 5_000_000_001]);
     nets(WeightUnit::Dwt, 4, 2, &[5_000_000_000, 5_000_000_001]);
+    nets(WeightUnit::Kg, 6, 1, &[5_000_000_000, 5_000_000_001]);
+    nets(WeightUnit::Lb, 6, 5, &[5_000_000_000, 5_000_000_001]);
 }
 
 // The last size whose field fits, above zero or below, and the first that does not.
@@ -96,6 +110,7 @@ fn edge(unit: WeightUnit, decimals: u8, step: u8, last: u64) {
     net(r, show::one_more(last));
 }
 
+// No net is too wide for kg and lb.
 pub fn width_cases() {
     edge(WeightUnit::G, 6, 1, 999_999_999);
     edge(WeightUnit::G, 6, 1, 99_999_999);
@@ -141,4 +156,8 @@ pub fn resolution_cases() {
     gram(WeightUnit::Ozt, 7, 5);
     gram(WeightUnit::Gn, 5, 1);
     gram(WeightUnit::Gn, 5, 2);
+    gram(WeightUnit::Kg, 6, 1);
+    gram(WeightUnit::Kg, 7, 1);
+    gram(WeightUnit::Lb, 6, 1);
+    gram(WeightUnit::Lb, 7, 5);
 }

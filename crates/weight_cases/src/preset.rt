@@ -39,6 +39,9 @@ pub fn request_cases() {
     each(WeightUnit::G, 0, 5, b"1002.4|1002.5|");
     each(WeightUnit::Oz, 0, 5, b"37.4|37.5|");
     each(WeightUnit::Oz, 5, 1, b"4|1.000005|1.000004|");
+    // Document 02, No. 5, with the two.
+    each(WeightUnit::Oz, 2, 1, b"4|");
+    each(WeightUnit::Kg, 2, 1, b"0.224|0.225|0.004|");
     // No number, and no profile's resolution.
     each(WeightUnit::G, 4, 1, b"00000000001|");
     each(WeightUnit::G, 4, 0, b"1|");
@@ -63,13 +66,16 @@ pub fn first_tie_cases() {
     halves(WeightUnit::Ozt);
     halves(WeightUnit::Gn);
     halves(WeightUnit::Dwt);
+    halves(WeightUnit::Kg);
+    halves(WeightUnit::Lb);
 }
 
-// Decimals in the middle between two micrograms, with what is rounded to them; the steps of g, mg and ct are whole micrograms.
+// Decimals in the middle between two micrograms, with what is rounded to them; the steps of g, mg, ct and kg are whole micrograms.
 pub fn second_tie_cases() {
     each(WeightUnit::Oz, 5, 1, b"4|3.999995|4.000004|3.999994|");
     each(WeightUnit::Ozt, 5, 1, b"0.3125|0.312495|0.312504|0.312494|");
     each(WeightUnit::Gn, 4, 1, b"50|49.99995|50.00004|49.99994|");
     each(WeightUnit::Dwt, 4, 1, b"6.25|6.24995|6.25004|6.24994|");
+    each(WeightUnit::Lb, 5, 1, b"0.05|0.049995|0.050004|0.049994|");
     each(WeightUnit::Mg, 3, 1, b"0.0005|0.000499|");
 }

@@ -8,10 +8,10 @@ use weight::WeightUnit;
 
 // k x unit.
 fn step_nanograms(unit: WeightUnit, step: u8) -> u64
-    ensures { λ r. ⌜ r ≤ 200_000_000_000 ⌝ }
+    ensures { λ r. ⌜ r ≤ 5_000_000_000_000 ⌝ }
 {
     let n = weight::nanograms_of(unit).0;
-    if n > 40_000_000_000 {
+    if n > 1_000_000_000_000 {
         return 0;
     }
     match step {
@@ -70,4 +70,6 @@ pub fn cases() {
     every_step(WeightUnit::Ozt);
     every_step(WeightUnit::Gn);
     every_step(WeightUnit::Dwt);
+    every_step(WeightUnit::Kg);
+    every_step(WeightUnit::Lb);
 }

@@ -43,7 +43,7 @@ pub fn form_cases() {
     grams(b"+5| 5|5 |5 0|5,0|5/0|5:0|5e1|5.-1|five|");
 }
 
-// Texts in the middle between two micrograms, with the nearest texts around; g and ct have none.
+// Texts in the middle between two micrograms, with the nearest texts around; g, ct and kg have none.
 pub fn tie_cases() {
     each(WeightUnit::Mg, b"0.000499|0.0005|0.000501|");
     each(WeightUnit::Mg, b"0.002499|0.0025|123.4565|");
@@ -51,8 +51,10 @@ pub fn tie_cases() {
     each(WeightUnit::Ozt, b"0.312499|0.3125|0.312501|");
     each(WeightUnit::Gn, b"49.999999|50|50.000001|150.000000|");
     each(WeightUnit::Dwt, b"6.249999|6.25|6.250001|18.75|");
+    each(WeightUnit::Lb, b"0.049999|0.05|0.050001|0.15|");
     grams(b"0.000001|");
     each(WeightUnit::Ct, b"0.000001|0.000002|0.000003|");
+    each(WeightUnit::Kg, b"0.000001|0.999999|");
 }
 
 // The last text up to the largest capacity and the first above it; then six decimals, and the largest text.
@@ -69,4 +71,6 @@ pub fn large_cases() {
     large(WeightUnit::Ozt, b"32.150746|32.150747|");
     large(WeightUnit::Gn, b"15432.3583|15432.3584|");
     large(WeightUnit::Dwt, b"643.014931|643.014932|");
+    large(WeightUnit::Kg, b"1.000000|1.000001|");
+    large(WeightUnit::Lb, b"2.204622|2.204623|");
 }

@@ -34,6 +34,8 @@ pub fn cases() {
     unit(WeightUnit::Ozt);
     unit(WeightUnit::Gn);
     unit(WeightUnit::Dwt);
-    texts::each(Kind::Unit, b"g|mg|ct|oz|ozt|GN|dwt|");
-    texts::each(Kind::Unit, b"|G|gn|kg|g | g|m|dw|ozt |oztt|DWT|lb|");
+    unit(WeightUnit::Kg);
+    unit(WeightUnit::Lb);
+    texts::each(Kind::Unit, b"g|mg|ct|oz|ozt|GN|dwt|kg|lb|");
+    texts::each(Kind::Unit, b"|G|gn|KG|g | g|m|dw|ozt |oztt|DWT|k|lbs|");
 }

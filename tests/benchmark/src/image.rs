@@ -1,5 +1,6 @@
 //! Inputs for the Cortex-M0 of tests/cortex-m0, as it finds them in its flash, and what the proved code on this machine makes of them.
 
+use crate::fast::profile::SIZE;
 use crate::linked::{proved_buffers, proved_calls, proved_fields, proved_lines, proved_rewritten};
 use crate::rows::{rows_on_board, Input};
 use crate::workload::*;
@@ -7,8 +8,8 @@ use std::fs;
 use std::io;
 use std::path::Path;
 
-/// The flash of the board has 192 KB for it.
-const ROOM: usize = 192 * 1024;
+/// The flash of the board has 176 KB for it.
+const FLASH: usize = 176 * 1024;
 
 /// What is asked for; a random history asks for the first three and for fields, or for whole buffers.
 const CALLS: u32 = 1;
@@ -20,7 +21,7 @@ const FIELDS: u32 = 32;
 const DIVISIONS: u32 = 64;
 
 /// The small count of a row; ten times that fits.
-pub const FEW: usize = 5;
+pub const FEW: usize = 4;
 
 /// What the crate `bench` prints: the answers of document 01's example.
 const EXAMPLE: &str = include_str!("../../../crates/bench/stdout");
@@ -68,7 +69,7 @@ impl Image {
 
     /// Document 02, No. 4: how often each kind of call divides. A line divides at its last byte.
     fn of_divisions() -> Image {
-        let mut image = Image { what: DIVISIONS, profiles: [profile_a(), vec![0; 144]].concat(), ..Image::default() };
+        let mut image = Image { what: DIVISIONS, profiles: [profile_a(), vec![0; SIZE]].concat(), ..Image::default() };
         image.calls.power_on();
         image.divides(0);
         image.line("SI", 0); // no sample has come: S I
@@ -83,6 +84,11 @@ impl Image {
         }
         for line in ["I0", "I1", "I2", "I3", "I4", "I5"] {
             image.line(line, 0);
+        }
+        for (line, times) in
+            [("M21", 0), ("M21 0 2", 0), ("M21 0 5", 0), ("SI", 1), ("TA 100.00 ct", 3), ("TAC", 0), ("M21 0 0", 0)]
+        {
+            image.line(line, times);
         }
         image.sample(14_256_050, true, 0);
         image.line("SIR", 1);
@@ -123,7 +129,7 @@ impl Image {
     }
 
     fn line(&mut self, line: &str, times: u64) {
-        self.line_in(256, line, times);
+        self.line_in(ROOM, line, times);
     }
 
     fn line_in(&mut self, room: u16, line: &str, times: u64) {
@@ -194,7 +200,7 @@ impl Image {
     /// In a folder of its own: the files `image` and `expected`.
     fn write(&self, folder: &Path) -> io::Result<()> {
         let bytes = self.bytes();
-        assert!(bytes.len() <= ROOM, "{}: {} bytes do not fit", folder.display(), bytes.len());
+        assert!(bytes.len() <= FLASH, "{}: {} bytes do not fit", folder.display(), bytes.len());
         fs::create_dir_all(folder)?;
         fs::write(folder.join("image"), bytes)?;
         fs::write(folder.join("expected"), self.expected())

@@ -66,7 +66,7 @@ fn run_buffers(side: Side, profiles: &[u8], all: &Buffers) -> u64 {
 /// The checksums that one side makes of an input. Callgrind writes what it counted when this returns.
 #[inline(never)]
 pub fn run(side: Side, input: &Input) -> (u64, i64) {
-    let mut out = [0; 256];
+    let mut out = [0; ROOM as usize];
     let mut values = 0;
     let sum = match (side, input) {
         (_, Input::Buffers(profiles, all)) => run_buffers(side, profiles, all),
@@ -198,6 +198,8 @@ pub fn rows() -> Vec<Row> {
         line("D \"pouch 12\""),
         line("SR"),
         line("SR 10.00 g"),
+        line("M21"),
+        line("M21 0 5"),
         line("I4"),
         line("I0"),
         line("Q"),
@@ -209,6 +211,7 @@ pub fn rows() -> Vec<Row> {
         reads("read: status", status_lines()),
         reads("read: text", text_lines()),
         reads("read: line of I0", listed_lines()),
+        reads("read: unit", unit_lines()),
         reads("read: error", error_lines()),
         reads("read: refused line", refused_lines()),
         field(NO_FIELD, 7, 142_560),

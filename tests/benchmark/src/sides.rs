@@ -6,7 +6,7 @@ use crate::fast::{module, profile, reader, weight};
 use crate::feed::{buffers, calls, fields, lines, rewritten, Digest, Implementation, Outcome, Received, Taken};
 use independent::module::{Module, Sample};
 use independent::reader::Reader;
-use independent::weight::{number_text, Scale, UNITS};
+use independent::weight::{number_text, Places};
 
 pub struct Fast;
 
@@ -58,6 +58,7 @@ impl Implementation for Fast {
             Answer::Text(command, text) => Digest { len: text.len(), ..head(4, command as u8, 0) },
             Answer::Listed(last, command) => head(5, command as u8, last.into()),
             Answer::Versions => head(6, 0, 0),
+            Answer::Unit(unit) => Digest { unit: unit.nanograms(), ..head(7, 0, 0) },
         }
     }
 
@@ -109,7 +110,7 @@ impl Implementation for Independent {
             margin: from.underload,
             zeroing: from.zeroing,
             patience: from.timeout,
-            scale: Scale { unit: UNITS[from.scale.unit as usize], decimals: from.scale.decimals, step: from.scale.step },
+            places: from.resolutions.map(|of| Places { decimals: of.decimals, step: of.step }),
             texts: [
                 text(&from.model.bytes, from.model.len),
                 text(&from.software.bytes, from.software.len),
@@ -161,6 +162,7 @@ impl Implementation for Independent {
             Answer::Text { identification, text } => Digest { len: text.len(), ..head(4, place(identification), 0) },
             Answer::Listed { status, name, .. } => head(5, place(name), (*status == 'A').into()),
             Answer::Versions => head(6, 0, 0),
+            Answer::Unit { unit } => Digest { unit: unit.nanograms() as u64, ..head(7, 0, 0) },
         }
     }
 

@@ -1,6 +1,8 @@
 //! The inputs: calls of the module and lines for the reader.
 
 use crate::fast::command::COMMANDS;
+use crate::fast::profile::SIZE;
+use crate::fast::weight::{self, Scale};
 use crate::feed::{self, Received};
 use independent::random;
 
@@ -39,28 +41,36 @@ impl Rng {
     }
 }
 
-/// The bytes of a profile: C, U, R, W; unit, decimals, step; the texts of I2 to I5.
-pub fn profile(limits: [u32; 4], scale: [u8; 3], texts: [&[u8]; 4]) -> Vec<u8> {
+/// The bytes of a profile: C, U, R, W; decimals and step of each unit, in the units' order; the texts of I2 to I5, each with its
+/// length before it; zeros up to the size.
+pub fn profile(limits: [u32; 4], resolutions: [[u8; 2]; 9], texts: [&[u8]; 4]) -> Vec<u8> {
     let mut bytes: Vec<u8> = limits.iter().flat_map(|limit| limit.to_le_bytes()).collect();
-    bytes.extend(scale);
+    bytes.extend(resolutions.concat());
     for (text, room) in texts.iter().zip([40, 40, 20, 20]) {
         bytes.push(text.len() as u8);
         bytes.extend(*text);
         bytes.resize(bytes.len() + room - text.len(), b'?');
     }
-    bytes.push(0);
+    bytes.resize(SIZE, 0);
     bytes
 }
 
+/// Profile A's limits; its decimals and steps, g with four and the others with two.
+const LIMITS_A: [u32; 4] = [220_000_000, 1_000_000, 4_400_000, 3];
+const RESOLUTIONS_A: [[u8; 2]; 9] = [[4, 1], [2, 1], [2, 1], [2, 1], [2, 1], [2, 1], [2, 1], [2, 1], [2, 1]];
+
 /// Document 01's profile A.
 pub fn profile_a() -> Vec<u8> {
-    profile([220_000_000, 1_000_000, 4_400_000, 3], [0, 4, 1], [b"", b"", b"VA-0001", b""])
+    profile(LIMITS_A, RESOLUTIONS_A, [b"", b"", b"VA-0001", b""])
 }
 
 /// The same with the longest texts.
 pub fn profile_with_texts() -> Vec<u8> {
-    profile([220_000_000, 1_000_000, 4_400_000, 3], [0, 4, 1], [&[b'm'; 40], &[b's'; 40], &[b'n'; 20], &[b'i'; 20]])
+    profile(LIMITS_A, RESOLUTIONS_A, [&[b'm'; 40], &[b's'; 40], &[b'n'; 20], &[b'i'; 20]])
 }
+
+/// What is lent to a call: enough for every answer.
+pub const ROOM: u16 = 384;
 
 /// Records of calls.
 #[derive(Clone, Default)]
@@ -74,7 +84,7 @@ impl Script {
     }
 
     pub fn byte(&mut self, byte: u8) {
-        self.byte_in(256, byte);
+        self.byte_in(ROOM, byte);
     }
 
     /// With a buffer of this length.
@@ -91,11 +101,11 @@ impl Script {
     }
 
     pub fn sample(&mut self, load: i32, stable: bool) {
-        self.record(feed::SAMPLE, stable, 256, load.to_le_bytes());
+        self.record(feed::SAMPLE, stable, ROOM, load.to_le_bytes());
     }
 
     pub fn power_on(&mut self) {
-        self.record(feed::POWER_ON, false, 256, [0; 4]);
+        self.record(feed::POWER_ON, false, ROOM, [0; 4]);
     }
 
     /// A power-on and a sample, and SR runs.
@@ -159,8 +169,11 @@ pub fn mixed_bytes() -> Script {
     for line in [&b"TA 12.5 g"[..], b"TA 100.00 g", b"TA 1. g", b"D \"pouch 12\"", b"D x", b"S 1", b"Q", b"", b"SIX", b"TAC"] {
         script.line(line);
     }
+    for line in [b"M21 0 5", b"M21 0 2", b"M21 0 0"] {
+        script.line(line);
+    }
     script.line(&[b'x'; 65]);
-    script.record(feed::BYTE, true, 256, [b'S', 0, 0, 0]);
+    script.record(feed::BYTE, true, ROOM, [b'S', 0, 0, 0]);
     script.line(b"");
     script
 }
@@ -183,7 +196,21 @@ fn any_text(rng: &mut Rng, room: usize) -> Vec<u8> {
     (0..length).map(|_| byte(rng)).collect()
 }
 
-/// Profiles in every unit; some of them are refused.
+/// Decimals and step of a unit, as a rule such that this lowest net, of this size, fits.
+fn any_resolution(rng: &mut Rng, unit: weight::Unit, lowest: u32) -> [u8; 2] {
+    let may_be_refused = rng.chance(2);
+    loop {
+        let (decimals, step) = (rng.below(7) as u8, [1, 2, 5][rng.below(3) as usize]);
+        if may_be_refused && rng.chance(50) {
+            return [rng.between(6, 9) as u8, rng.below(7) as u8];
+        }
+        if may_be_refused || (Scale { unit, decimals, step }).is_allowed(lowest) {
+            return [decimals, step];
+        }
+    }
+}
+
+/// Profiles with decimals and a step for every unit; some of them are refused.
 pub fn any_profiles(rng: &mut Rng, count: usize) -> Vec<u8> {
     let mut profiles = profile_a();
     for _ in 1..count {
@@ -194,13 +221,14 @@ pub fn any_profiles(rng: &mut Rng, count: usize) -> Vec<u8> {
         };
         let least = i64::from(!rng.chance(3));
         let limits = [capacity, part(rng), part(rng), rng.between(least, 5) as u32];
-        let scale = [rng.below(7) as u8, rng.below(6) as u8, [1, 2, 5][rng.below(3) as usize]];
+        let lowest = limits[0] + limits[1];
+        let resolutions = weight::UNITS.map(|unit| any_resolution(rng, unit, lowest));
         let texts = [40, 40, 20, 20].map(|room| any_text(rng, room));
         let [two, three, four, five] = &texts;
-        profiles.extend(profile(limits, scale, [two, three, four, five]));
+        profiles.extend(profile(limits, resolutions, [two, three, four, five]));
         if rng.chance(5) {
             // A text with a quote, or one that is too long.
-            let at = profiles.len() - 144 + 60;
+            let at = profiles.len() - SIZE + 75;
             profiles[at] = if rng.chance(50) { 41 } else { 1 };
             profiles[at + 1] = b'"';
         }
@@ -208,7 +236,23 @@ pub fn any_profiles(rng: &mut Rng, count: usize) -> Vec<u8> {
     profiles
 }
 
-const UNITS: [&[u8]; 8] = [b"g", b"mg", b"ct", b"oz", b"ozt", b"GN", b"dwt", b"kg"];
+/// The nine, and one that is none of them.
+const UNITS: [&[u8]; 10] = [b"g", b"mg", b"ct", b"oz", b"ozt", b"GN", b"dwt", b"kg", b"lb", b"t"];
+
+/// The codes of the nine, and others.
+const CODES: [&[u8]; 16] =
+    [b"0", b"1", b"3", b"5", b"7", b"8", b"9", b"10", b"11", b"2", b"20", b"05", b"256", b"", b" 5", b"5 "];
+
+/// Sets a unit, or nearly.
+fn any_unit_command(rng: &mut Rng) -> Vec<u8> {
+    let code = if rng.chance(80) { CODES[rng.below(9) as usize] } else { rng.pick(&CODES) };
+    match rng.below(20) {
+        0 => [b"M21 1 ", code].concat(),
+        1 => [b"M21 ", code].concat(),
+        2 => b"M21 0".to_vec(),
+        _ => [b"M21 0 ", code].concat(),
+    }
+}
 
 fn any_number(rng: &mut Rng) -> Vec<u8> {
     let whole = rng.digits(6);
@@ -235,6 +279,7 @@ fn any_command(rng: &mut Rng) -> Vec<u8> {
         4..=6 => [&b"TA "[..], &any_number(rng), b" ", rng.pick(&UNITS)].concat(),
         7 => [&b"SR "[..], &any_number(rng), b" ", rng.pick(&UNITS)].concat(),
         8..=9 => [b"D \"", &any_text(rng, 22)[..], b"\""].concat(),
+        10 => any_unit_command(rng),
         _ => name.to_vec(),
     }
 }
@@ -253,7 +298,7 @@ fn any_step(rng: &mut Rng, profiles: usize, room: &mut u16, script: &mut Script)
     match rng.below(100) {
         0 => script.profile(rng.below(profiles as u64) as u32),
         1..=2 => script.record(feed::POWER_ON, false, *room, [0; 4]),
-        3..=9 => *room = if rng.chance(60) { 256 } else { rng.below(60) as u16 },
+        3..=9 => *room = if rng.chance(60) { ROOM } else { rng.below(60) as u16 },
         10..=49 => script.record(feed::SAMPLE, rng.chance(60), *room, any_load(rng).to_le_bytes()),
         _ => {
             let faulty = rng.chance(5);
@@ -268,11 +313,11 @@ fn any_step(rng: &mut Rng, profiles: usize, room: &mut u16, script: &mut Script)
     }
 }
 
-/// A random history: every command, faults, short buffers, waits, repetition, send on change, weights in all units. `profiles` is how many there are.
+/// A random history: every command, faults, short buffers, waits, repetition, send on change, units that change. `profiles` is how many there are.
 pub fn any_history(rng: &mut Rng, profiles: usize, calls: usize) -> Script {
     let mut script = Script::default();
     script.power_on();
-    let mut room = 256;
+    let mut room = ROOM;
     while script.len() < calls {
         any_step(rng, profiles, &mut room, &mut script);
     }
@@ -305,7 +350,7 @@ impl Buffers {
 pub fn any_buffers(rng: &mut Rng, profiles: usize, calls: usize, bytes: usize) -> Buffers {
     let mut all = Buffers::default();
     all.script.power_on();
-    let mut room = 256;
+    let mut room = ROOM;
     while all.script.len() < calls && all.bytes.len() < bytes {
         if rng.chance(80) {
             any_step(rng, profiles, &mut room, &mut all.script);
@@ -382,7 +427,7 @@ pub fn any_room(rng: &mut Rng) -> usize {
     match rng.below(4) {
         0 => rng.below(40) as usize,
         1 => rng.below(600) as usize,
-        2 => 256,
+        2 => ROOM.into(),
         _ => 4_096,
     }
 }
@@ -433,6 +478,8 @@ pub fn weight_lines() -> Vec<Vec<u8>> {
         "TI S 99999.999 dwt",
         "S D -12345.67 GN",
         "S S   0.999999 ozt",
+        "S S   0.014256 kg",
+        "TA A       0.49 lb",
     ];
     ended(&weights)
 }
@@ -440,6 +487,7 @@ pub fn weight_lines() -> Vec<Vec<u8>> {
 pub fn status_lines() -> Vec<Vec<u8>> {
     ended(&[
         "S +", "S -", "Z A", "ZI S", "ZI D", "Z +", "T -", "TI +", "TAC A", "D A", "DW A", "D L", "TA L", "S L", "S I", "I4 I",
+        "M21 A", "M21 L",
     ])
 }
 
@@ -449,7 +497,11 @@ pub fn text_lines() -> Vec<Vec<u8>> {
 }
 
 pub fn listed_lines() -> Vec<Vec<u8>> {
-    ended(&["I0 B 0 \"I0\"", "I0 B 0 \"SIR\"", "I0 B 0 \"@\"", "I0 B 1 \"SR\"", "I0 B 1 \"TAC\"", "I0 A 1 \"TI\""])
+    ended(&["I0 B 0 \"I0\"", "I0 B 0 \"SIR\"", "I0 B 0 \"@\"", "I0 B 1 \"SR\"", "I0 B 1 \"TI\"", "I0 A 2 \"M21\""])
+}
+
+pub fn unit_lines() -> Vec<Vec<u8>> {
+    ended(&["M21 A 0 0", "M21 A 0 5", "M21 A 0 11"])
 }
 
 pub fn error_lines() -> Vec<Vec<u8>> {
@@ -458,7 +510,7 @@ pub fn error_lines() -> Vec<Vec<u8>> {
 
 pub fn refused_lines() -> Vec<Vec<u8>> {
     ended(&[
-        "S S    14.2561 kg",
+        "S S    14.2561 t",
         "S S   14.2561 g",
         "s S    14.2561 g",
         "S S   -0.0000 g",
@@ -469,6 +521,8 @@ pub fn refused_lines() -> Vec<Vec<u8>> {
         "",
         "ES ",
         "I0 B 1 \"S\"",
+        "M21 A 0 2",
+        "M21 A 1 3",
     ])
 }
 
@@ -478,7 +532,7 @@ fn ended(lines: &[&str]) -> Vec<Vec<u8>> {
 
 /// Every kind of line that the reader takes, and some that it refuses.
 pub fn mixed_lines() -> Vec<Vec<u8>> {
-    [weight_lines(), status_lines(), text_lines(), listed_lines(), error_lines(), refused_lines()].concat()
+    [weight_lines(), status_lines(), text_lines(), listed_lines(), unit_lines(), error_lines(), refused_lines()].concat()
 }
 
 /// Lines with and without damage.
@@ -486,9 +540,10 @@ pub fn any_lines(rng: &mut Rng, count: usize) -> Vec<Vec<u8>> {
     let good = mixed_lines();
     let mut all = Vec::new();
     while all.len() < count {
-        let mut line = match rng.below(3) {
-            0 => any_weight_line(rng),
-            1 => any_status_line(rng),
+        let mut line = match rng.below(13) {
+            0..=3 => any_weight_line(rng),
+            4..=7 => any_status_line(rng),
+            8 => [&b"M21 A 0 "[..], rng.pick(&CODES), b"\r\n"].concat(),
             _ => good[rng.below(good.len() as u64) as usize].clone(),
         };
         if rng.chance(30) && !line.is_empty() {

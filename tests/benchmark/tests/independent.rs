@@ -1,18 +1,20 @@
 //! The Rust that is written for speed gives the answers of the independent implementation, call by call and line by line.
 
 use benchmark::fast::weight as fast;
+use benchmark::fast::weight::UNITS as FAST_UNITS;
 use benchmark::feed::{call, profile_in, take, Implementation, Outcome, Taken, BUFFER, CALL};
 use benchmark::sides::{Fast, Independent};
 use benchmark::workload::{
     any_buffer, any_history, any_lines, any_load, any_profiles, any_room, in_buffers, inner_buffers, mixed_bytes, profile,
-    profile_a, Buffers, Rng, Script, BOARD_LENT, LENT, SIZES,
+    profile_a, Buffers, Rng, Script, BOARD_LENT, LENT, ROOM, SIZES,
 };
 use independent::module::Module;
+use independent::profile::Profile;
 use independent::random;
 use independent::replay::{Called, Event, Replay};
 use independent::sweeps;
 use independent::tally::Call;
-use independent::weight::{number_text, typed_micrograms, typed_tare, UNITS};
+use independent::weight::{number_text, typed_micrograms, typed_tare};
 
 const PROFILES: usize = 64;
 const CALLS: usize = 200_000;
@@ -25,14 +27,14 @@ const NUMBERS: usize = 500;
 fn outcomes<'a, I: Implementation>(
     profiles: &'a [u8],
     script: &'a [u8],
-) -> impl Iterator<Item = (Option<Outcome>, [u8; 256])> + 'a
+) -> impl Iterator<Item = (Option<Outcome>, [u8; ROOM as usize])> + 'a
 where
     I::Profile: 'a,
     I::State: 'a,
 {
     let (mut profile, mut state) = (I::profile(profiles, 0), I::start());
     script.chunks_exact(CALL).map(move |record| {
-        let mut out = [0xA5; 256];
+        let mut out = [0xA5; ROOM as usize];
         let record = record.try_into().expect("a whole record");
         let outcome = match profile_in::<I>(profiles, record) {
             Some(next) => {
@@ -83,13 +85,17 @@ fn whole_buffers_are_the_same() {
                 (fast.0, independent.0) = (Fast::profile(&profiles, n), Independent::profile(&profiles, n));
             }
             1 => {
-                let one = lent(256, |out| Fast::power_on(&fast.0, &mut fast.1, out));
-                assert_eq!(one, lent(256, |out| Independent::power_on(&independent.0, &mut independent.1, out)), "call {at}");
+                let one = lent(ROOM.into(), |out| Fast::power_on(&fast.0, &mut fast.1, out));
+                assert_eq!(
+                    one,
+                    lent(ROOM.into(), |out| Independent::power_on(&independent.0, &mut independent.1, out)),
+                    "call {at}"
+                );
             }
             2..=7 => {
                 let (load, stable) = (any_load(&mut rng), rng.chance(60));
-                let one = lent(256, |out| Fast::sample(&fast.0, &mut fast.1, load, stable, out));
-                let other = lent(256, |out| Independent::sample(&independent.0, &mut independent.1, load, stable, out));
+                let one = lent(ROOM.into(), |out| Fast::sample(&fast.0, &mut fast.1, load, stable, out));
+                let other = lent(ROOM.into(), |out| Independent::sample(&independent.0, &mut independent.1, load, stable, out));
                 assert_eq!(one, other, "call {at}");
             }
             _ => {}
@@ -173,8 +179,7 @@ fn sr_sends_none_or_each_of_the_samples() {
 fn typed_numbers_are_the_same() {
     let mut rng = Rng::new(11);
     for scale in sweeps::allowed_scales() {
-        let unit = UNITS.iter().position(|unit| *unit == scale.unit).expect("a unit") as u8;
-        let own = fast::Scale { unit: fast::Unit::at(unit), decimals: scale.decimals, step: scale.step };
+        let own = fast::Scale { unit: FAST_UNITS[scale.unit.index()], decimals: scale.decimals, step: scale.step };
         let ties =
             sweeps::second_ties(1_000_000_000, scale).into_iter().flatten().flat_map(|steps| 2 * steps - 1..=2 * steps + 1);
         let halves = (0..10).chain(ties).flat_map(|halves| sweeps::typed_halves(halves, scale));
@@ -196,6 +201,23 @@ fn typed_numbers_are_the_same() {
     }
 }
 
+/// Every unit's decimals and steps, with the widest lowest net that fits and one more.
+#[test]
+fn scales_are_tested_alike() {
+    for scale in sweeps::scales() {
+        let own = fast::Scale { unit: FAST_UNITS[scale.unit.index()], decimals: scale.decimals, step: scale.step };
+        let allowed = |profile: &Profile| own.is_allowed(profile.capacity + profile.margin);
+        let widest = sweeps::with_widest_capacity(scale);
+        for capacity in [1, 2, 1_000, widest.capacity, widest.capacity + 1, 1_000_000_000] {
+            let alone = Profile { capacity: capacity.min(1_000_000_000), ..widest.clone() };
+            for margin in [0, alone.capacity / 2, alone.capacity] {
+                let profile = Profile { margin, ..alone.clone() };
+                assert_eq!(allowed(&profile), !profile.is_refused(None), "{scale:?} {margin} {capacity}");
+            }
+        }
+    }
+}
+
 /// The independent implementation's own histories too, which are aimed at the edges of zero, tare and count, and of SR's threshold.
 #[test]
 fn aimed_histories_are_the_same() {
@@ -210,10 +232,10 @@ fn aimed_histories_are_the_same() {
 
 fn assert_same(event: &Event, state: &mut <Fast as Implementation>::State) {
     let from = event.profile;
-    let unit = UNITS.iter().position(|unit| *unit == from.scale.unit).expect("a unit") as u8;
     let limits = [from.capacity, from.margin, from.zeroing, from.patience];
     let texts = [0, 1, 2, 3].map(|at| &from.texts[at][..]);
-    let profile = Fast::profile(&profile(limits, [unit, from.scale.decimals, from.scale.step], texts), 0);
+    let resolutions = from.places.map(|places| [places.decimals, places.step]);
+    let profile = Fast::profile(&profile(limits, resolutions, texts), 0);
     let mut out = [0xA5; 4096];
     let lent = &mut out[..event.room];
     let outcome = match event.called {

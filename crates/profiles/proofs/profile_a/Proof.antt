@@ -4,6 +4,9 @@ use borrow.Author.Needs.{needs}
 use Rattle.profiles.proofs.profile_a.Statement.{statement}
 use Rattle.profiles.proofs.profile_a.Tie as tie
 
+readability-requires : tie.Need-readability-requires
+readability-requires c κs = search needs
+
 no-text-requires : tie.Need-no-text-requires
 no-text-requires c κs = search needs
 
@@ -23,9 +26,10 @@ returns c =
       c .before .serial .ensures,
       c .before .before .no-text2 .ensures,
       c .before .before .before .no-text .ensures,
+      c .before .before .before .before .readability .ensures,
     )
 
 pub profile-a-spec : {M : Type 1} → statement M
 profile-a-spec =
     tie.close
-    (tie.spec no-text-requires no-text-requires-2 serial-requires short-text-requires returns)
+    (tie.spec readability-requires no-text-requires no-text-requires-2 serial-requires short-text-requires returns)

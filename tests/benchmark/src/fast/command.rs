@@ -22,17 +22,19 @@ pub enum Command {
     Ta,
     Tac,
     Ti,
+    M21,
 }
 
 use Command::*;
 
 /// In the order in which I0 lists them.
-pub const COMMANDS: [Command; 19] = [I0, I1, I2, I3, I4, I5, S, Si, Sir, Z, Zi, Reset, D, Dw, Sr, T, Ta, Tac, Ti];
+pub const COMMANDS: [Command; 20] = [I0, I1, I2, I3, I4, I5, S, Si, Sir, Z, Zi, Reset, D, Dw, Sr, T, Ta, Tac, Ti, M21];
 
 /// All that I0 sends.
-pub const LIST: &[u8; 244] = b"I0 B 0 \"I0\"\r\nI0 B 0 \"I1\"\r\nI0 B 0 \"I2\"\r\nI0 B 0 \"I3\"\r\nI0 B 0 \"I4\"\r\nI0 B 0 \"I5\"\r\n\
+pub const LIST: &[u8; 258] = b"I0 B 0 \"I0\"\r\nI0 B 0 \"I1\"\r\nI0 B 0 \"I2\"\r\nI0 B 0 \"I3\"\r\nI0 B 0 \"I4\"\r\nI0 B 0 \"I5\"\r\n\
 I0 B 0 \"S\"\r\nI0 B 0 \"SI\"\r\nI0 B 0 \"SIR\"\r\nI0 B 0 \"Z\"\r\nI0 B 0 \"ZI\"\r\nI0 B 0 \"@\"\r\nI0 B 1 \"D\"\r\nI0 B 1 \"DW\"\r\n\
-I0 B 1 \"SR\"\r\nI0 B 1 \"T\"\r\nI0 B 1 \"TA\"\r\nI0 B 1 \"TAC\"\r\nI0 A 1 \"TI\"\r\n";
+I0 B 1 \"SR\"\r\nI0 B 1 \"T\"\r\nI0 B 1 \"TA\"\r\nI0 B 1 \"TAC\"\r\nI0 B 1 \"TI\"\r\n\
+I0 A 2 \"M21\"\r\n";
 
 pub const VERSIONS: &[u8; 24] = b"I1 A \"0\" \"2.30\" \"2.20\"\r\n";
 
@@ -58,20 +60,21 @@ impl Command {
             b"TA" => Ta,
             b"TAC" => Tac,
             b"TI" => Ti,
+            b"M21" => M21,
             _ => return None,
         })
     }
 
     pub fn name(self) -> &'static [u8] {
-        const NAMES: [&[u8]; 19] = [
+        const NAMES: [&[u8]; 20] = [
             b"I0", b"I1", b"I2", b"I3", b"I4", b"I5", b"S", b"SI", b"SIR", b"Z", b"ZI", b"@", b"D", b"DW", b"SR", b"T", b"TA",
-            b"TAC", b"TI",
+            b"TAC", b"TI", b"M21",
         ];
         NAMES[self as usize]
     }
 
     pub fn level(self) -> u8 {
-        u8::from(self >= D)
+        u8::from(self >= D) + u8::from(self == M21)
     }
 
     /// The name, but S for SI, SIR and SR.
@@ -84,7 +87,7 @@ impl Command {
     }
 
     pub fn takes_parameters(self) -> bool {
-        matches!(self, D | Ta | Sr)
+        matches!(self, D | Ta | Sr | M21)
     }
 
     pub fn needs_sample(self) -> bool {

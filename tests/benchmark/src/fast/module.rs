@@ -2,7 +2,7 @@
 
 use super::command::{Command, Error, Status, LIST, VERSIONS};
 use super::profile::{is_printable, Profile, Text};
-use super::weight::{put_field, typed_tare, typed_threshold, Scale};
+use super::weight::{put_field, typed_tare, typed_threshold, Scale, Unit};
 use crate::feed::{Outcome, Taken};
 
 const CR: u8 = 13;
@@ -98,6 +98,8 @@ pub struct Weighing {
     pub repeating: Repeating,
     /// The text is shown in place of the weight.
     pub text_shown: bool,
+    /// The unit in force.
+    pub unit: Unit,
 }
 
 #[derive(Clone, Debug)]
@@ -116,6 +118,8 @@ enum Answer {
     Text(Command),
     List,
     Versions,
+    /// What M21 is asked for.
+    Unit(Unit),
 }
 
 impl State {
@@ -136,6 +140,7 @@ impl State {
                 sampled: false,
                 repeating: Repeating::Nothing,
                 text_shown: false,
+                unit: Unit::Gram,
             },
             text: Text { bytes: [0; 20], len: 0 },
         }
@@ -165,7 +170,7 @@ pub fn power_on(profile: &Profile, state: &mut State, out: &mut [u8]) -> Outcome
     if !profile.is_allowed() {
         return refused(1);
     }
-    match put(Answer::Text(Command::I4), profile, out) {
+    match put(Answer::Text(Command::I4), profile, Unit::Gram, out) {
         None => refused(3),
         Some(count) => {
             *state = State::start();
@@ -195,7 +200,7 @@ fn end_line(profile: &Profile, state: &mut State, out: &mut [u8]) -> Option<usiz
     let mut next = state.weighing;
     let mut shown = None;
     let answer = judge(profile, line, text, &mut next, &mut shown);
-    let count = put(answer, profile, out)?;
+    let count = put(answer, profile, next.unit, out)?;
     if let Some(shown) = shown {
         state.text.bytes[..shown.len()].copy_from_slice(shown);
         state.text.len = shown.len() as u8;
@@ -245,7 +250,7 @@ pub fn sample(profile: &Profile, state: &mut State, load: i32, stable: bool, out
     }
     let mut next = Weighing { load, stable, sampled: true, ..state.weighing };
     let answer = weigh(profile, &mut next);
-    let Some(count) = put(answer, profile, out) else { return refused(3) };
+    let Some(count) = put(answer, profile, next.unit, out) else { return refused(3) };
     state.weighing = next;
     done(count)
 }
@@ -288,7 +293,7 @@ fn judge<'a>(profile: &Profile, line: &Line, text: &'a [u8], now: &mut Weighing,
     run(profile, command, rest, now, shown)
 }
 
-/// The command's own rule, and the parameters of D, TA and SR.
+/// The command's own rule, and the parameters of D, TA, SR and M21.
 fn run<'a>(
     profile: &Profile,
     command: Command,
@@ -305,7 +310,7 @@ fn run<'a>(
             settle_or_wait(profile, Command::S, now)
         }
         Command::Sr => {
-            let Some(threshold) = threshold(profile, rest) else { return Answer::Plain(Command::S, Status::L) };
+            let Some(threshold) = threshold(profile, now.unit, rest) else { return Answer::Plain(Command::S, Status::L) };
             now.repeating = Repeating::Nothing;
             now.threshold = threshold;
             settle_or_wait(profile, Command::Sr, now)
@@ -323,7 +328,7 @@ fn run<'a>(
         }
         Command::Ta => {
             if let Some(rest) = rest {
-                match preset(profile, rest, typed_tare) {
+                match preset(profile, now.unit, rest, typed_tare) {
                     Some(amount) => now.tare = amount,
                     None => return Answer::Plain(Command::Ta, Status::L),
                 }
@@ -342,24 +347,34 @@ fn run<'a>(
             now.text_shown = false;
             Answer::Plain(Command::Dw, Status::A)
         }
+        Command::M21 => match rest {
+            None => Answer::Unit(now.unit),
+            Some(rest) => match rest.strip_prefix(b"0 ").and_then(Unit::coded) {
+                Some(unit) => {
+                    now.unit = unit;
+                    Answer::Plain(Command::M21, Status::A)
+                }
+                None => Answer::Plain(Command::M21, Status::L),
+            },
+        },
         Command::Reset => Answer::Nothing,
     }
 }
 
-/// Number, space, the profile's unit; at most C as it is read.
-fn preset(profile: &Profile, rest: &[u8], read: impl Fn(&[u8], Scale) -> Option<u64>) -> Option<i64> {
+/// Number, space, the unit in force; at most C as it is read.
+fn preset(profile: &Profile, unit: Unit, rest: &[u8], read: impl Fn(&[u8], Scale) -> Option<u64>) -> Option<i64> {
     let at = rest.iter().position(|&byte| byte == b' ')?;
-    if &rest[at + 1..] != profile.scale.unit.name() {
+    if &rest[at + 1..] != unit.name() {
         return None;
     }
-    let amount = read(&rest[..at], profile.scale)?;
+    let amount = read(&rest[..at], profile.scale(unit))?;
     (amount <= u64::from(profile.capacity)).then_some(amount as i64)
 }
 
 /// What the parameter of SR sets; 0 where there is none.
-fn threshold(profile: &Profile, rest: Option<&[u8]>) -> Option<u32> {
+fn threshold(profile: &Profile, unit: Unit, rest: Option<&[u8]>) -> Option<u32> {
     let Some(rest) = rest else { return Some(0) };
-    match preset(profile, rest, typed_threshold)? {
+    match preset(profile, unit, rest, typed_threshold)? {
         0 => None,
         amount => Some(amount as u32),
     }
@@ -491,21 +506,21 @@ fn on_change(profile: &Profile, now: &mut Weighing) -> Answer {
 fn has_moved(profile: &Profile, now: &Weighing, net: i64) -> bool {
     let change = net.abs_diff(now.last);
     match now.threshold {
-        0 => 8 * change >= now.last.unsigned_abs() && profile.scale.is_thirty_steps(change),
+        0 => 8 * change >= now.last.unsigned_abs() && profile.scale(now.unit).is_thirty_steps(change),
         set => change >= u64::from(set),
     }
 }
 
 /// Writes an answer; none where the buffer is shorter.
-fn put(answer: Answer, profile: &Profile, out: &mut [u8]) -> Option<usize> {
+fn put(answer: Answer, profile: &Profile, unit: Unit, out: &mut [u8]) -> Option<usize> {
     match answer {
         Answer::Nothing => Some(0),
         Answer::Plain(command, status) => put_pieces([command.name(), &[b' ', status.byte(), CR, LF]], out),
         Answer::Weight(command, status, net) => {
             let mut field = [0; 10];
-            put_field(profile.scale.places(net), profile.scale.decimals, &mut field);
-            let unit = profile.scale.unit.name();
-            put_pieces([command.name(), &[b' ', status.byte(), b' '], &field, b" ", unit, b"\r\n"], out)
+            let scale = profile.scale(unit);
+            put_field(scale.places(net), scale.decimals, &mut field);
+            put_pieces([command.name(), &[b' ', status.byte(), b' '], &field, b" ", unit.name(), b"\r\n"], out)
         }
         Answer::Error(error) => put_pieces([&error.line()], out),
         Answer::Text(command) => {
@@ -519,6 +534,7 @@ fn put(answer: Answer, profile: &Profile, out: &mut [u8]) -> Option<usize> {
         }
         Answer::List => put_pieces([LIST], out),
         Answer::Versions => put_pieces([VERSIONS], out),
+        Answer::Unit(unit) => put_pieces([b"M21 A 0 ", unit.code(), b"\r\n"], out),
     }
 }
 

@@ -1,6 +1,6 @@
 //! The profile, and when it is refused.
 
-use super::weight::{Scale, Unit};
+use super::weight::{Scale, Unit, UNITS};
 
 /// A text: its first `len` bytes.
 #[derive(Clone, Copy, Debug)]
@@ -30,13 +30,21 @@ pub fn is_printable(text: &[u8]) -> bool {
     text.iter().fold(true, |good, &byte| good & (byte >= 32) & (byte != b'"'))
 }
 
+/// How finely a unit is printed.
+#[derive(Clone, Copy, Debug)]
+pub struct Resolution {
+    pub decimals: u8,
+    pub step: u8,
+}
+
 #[derive(Clone, Copy, Debug)]
 pub struct Profile {
     pub capacity: u32,
     pub underload: u32,
     pub zeroing: u32,
     pub timeout: u32,
-    pub scale: Scale,
+    /// Of each unit.
+    pub resolutions: [Resolution; 9],
     /// The texts of I2 to I5.
     pub model: Text<40>,
     pub software: Text<40>,
@@ -45,17 +53,29 @@ pub struct Profile {
 }
 
 /// The bytes of a profile in the benchmark's input.
-pub const SIZE: usize = 144;
+pub const SIZE: usize = 160;
 
 impl Profile {
     pub fn is_allowed(&self) -> bool {
         self.are_limits_allowed()
-            && self.scale.is_allowed()
-            && self.scale.prints(self.lowest_net())
+            && self.are_scales_allowed()
             && self.model.is_allowed()
             && self.software.is_allowed()
             && self.serial.is_allowed()
             && self.identity.is_allowed()
+    }
+
+    /// What weights are printed and typed in while this unit is in force.
+    #[inline(always)]
+    pub fn scale(&self, unit: Unit) -> Scale {
+        let Resolution { decimals, step } = self.resolutions[unit as usize];
+        Scale { unit, decimals, step }
+    }
+
+    /// All nine; no early end. The limits are allowed, so the sum fits.
+    fn are_scales_allowed(&self) -> bool {
+        let lowest = self.capacity + self.underload;
+        UNITS.iter().fold(true, |good, &unit| good & self.scale(unit).is_allowed(lowest))
     }
 
     /// No net has a longer text: it has the most digits, and a minus unless it is rounded to zero.
@@ -79,11 +99,14 @@ impl Profile {
             underload: number(4),
             zeroing: number(8),
             timeout: number(12),
-            scale: Scale { unit: Unit::at(bytes[16]), decimals: bytes[17], step: bytes[18] },
-            model: Text::from(&bytes[19..]),
-            software: Text::from(&bytes[60..]),
-            serial: Text::from(&bytes[101..]),
-            identity: Text::from(&bytes[122..]),
+            resolutions: UNITS.map(|unit| {
+                let at = 16 + 2 * unit as usize;
+                Resolution { decimals: bytes[at], step: bytes[at + 1] }
+            }),
+            model: Text::from(&bytes[34..]),
+            software: Text::from(&bytes[75..]),
+            serial: Text::from(&bytes[116..]),
+            identity: Text::from(&bytes[137..]),
         }
     }
 }

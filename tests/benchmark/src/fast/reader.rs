@@ -14,6 +14,8 @@ pub enum Answer<'a> {
     /// A line of I0, with A if it is the last.
     Listed(bool, Command),
     Versions,
+    /// What M21 is asked for.
+    Unit(Unit),
 }
 
 #[derive(Clone, Copy, Debug, PartialEq, Eq)]
@@ -55,6 +57,7 @@ fn read_more<'a>(line: &'a [u8], command: Command, status: u8, rest: &'a [u8]) -
             let text = rest.strip_prefix(b"\"")?.strip_suffix(b"\"")?;
             is_text(command, text).then_some(Answer::Text(command, text))
         }
+        Command::M21 if status == b'A' => Unit::coded(rest.strip_prefix(b"0 ")?).map(Answer::Unit),
         _ => read_weight(command, Status::of(status)?, rest),
     }
 }
@@ -89,11 +92,11 @@ fn is_text(command: Command, text: &[u8]) -> bool {
 fn is_plain(command: Command, status: Status) -> bool {
     use Command::*;
     match status {
-        Status::A => matches!(command, Z | Tac | D | Dw),
+        Status::A => matches!(command, Z | Tac | D | Dw | M21),
         Status::B => false,
         Status::S | Status::D => command == Zi,
         Status::I => !matches!(command, Si | Sir | Sr | Reset),
-        Status::L => matches!(command, S | D | Ta),
+        Status::L => matches!(command, S | D | Ta | M21),
         Status::Over | Status::Under => matches!(command, S | Z | Zi | T | Ti),
     }
 }
@@ -129,6 +132,7 @@ pub fn write(answer: &Answer, out: &mut [u8]) -> Result<usize, u8> {
             put_pieces([&front, command.name(), b"\"\r\n"], out)
         }
         Answer::Versions => put_pieces([VERSIONS], out),
+        Answer::Unit(unit) => put_pieces([b"M21 A 0 ", unit.code(), b"\r\n"], out),
         _ => return Err(4),
     };
     written.ok_or(3)

@@ -10,31 +10,36 @@ pub enum Unit {
     TroyOunce,
     Grain,
     Pennyweight,
+    Kilogram,
+    Pound,
 }
+
+use Unit::*;
+
+/// Document 01's seven in its order, then kg and lb.
+pub const UNITS: [Unit; 9] = [Gram, Milligram, Carat, Ounce, TroyOunce, Grain, Pennyweight, Kilogram, Pound];
+
+const NANOGRAMS: [u64; 9] = [
+    1_000_000_000,
+    1_000_000,
+    200_000_000,
+    28_349_523_125,
+    31_103_476_800,
+    64_798_910,
+    1_555_173_840,
+    1_000_000_000_000,
+    453_592_370_000,
+];
 
 const POWERS: [u64; 11] = [1, 10, 100, 1_000, 10_000, 100_000, 1_000_000, 10_000_000, 100_000_000, 1_000_000_000, 10_000_000_000];
 
 impl Unit {
-    pub fn at(place: u8) -> Unit {
-        match place {
-            0 => Unit::Gram,
-            1 => Unit::Milligram,
-            2 => Unit::Carat,
-            3 => Unit::Ounce,
-            4 => Unit::TroyOunce,
-            5 => Unit::Grain,
-            _ => Unit::Pennyweight,
-        }
-    }
-
     pub fn nanograms(self) -> u64 {
-        const NANOGRAMS: [u64; 7] =
-            [1_000_000_000, 1_000_000, 200_000_000, 28_349_523_125, 31_103_476_800, 64_798_910, 1_555_173_840];
         NANOGRAMS[self as usize]
     }
 
     pub fn name(self) -> &'static [u8] {
-        const NAMES: [&[u8]; 7] = [b"g", b"mg", b"ct", b"oz", b"ozt", b"GN", b"dwt"];
+        const NAMES: [&[u8]; 9] = [b"g", b"mg", b"ct", b"oz", b"ozt", b"GN", b"dwt", b"kg", b"lb"];
         NAMES[self as usize]
     }
 
@@ -47,6 +52,29 @@ impl Unit {
             b"ozt" => Unit::TroyOunce,
             b"GN" => Unit::Grain,
             b"dwt" => Unit::Pennyweight,
+            b"kg" => Unit::Kilogram,
+            b"lb" => Unit::Pound,
+            _ => return None,
+        })
+    }
+
+    /// The code of M21.
+    pub fn code(self) -> &'static [u8] {
+        const CODES: [&[u8]; 9] = [b"0", b"3", b"5", b"8", b"9", b"10", b"11", b"1", b"7"];
+        CODES[self as usize]
+    }
+
+    pub fn coded(text: &[u8]) -> Option<Unit> {
+        Some(match text {
+            b"0" => Unit::Gram,
+            b"1" => Unit::Kilogram,
+            b"3" => Unit::Milligram,
+            b"5" => Unit::Carat,
+            b"7" => Unit::Pound,
+            b"8" => Unit::Ounce,
+            b"9" => Unit::TroyOunce,
+            b"10" => Unit::Grain,
+            b"11" => Unit::Pennyweight,
             _ => return None,
         })
     }
@@ -59,9 +87,31 @@ pub struct Scale {
     pub step: u8,
 }
 
+/// For each unit, at eight times the decimals and the step: the largest size of a lowest net that fits; 0 where no profile may have
+/// them. The rounded number has at most nine digits beside a minus, eight beside a point too, just if the size and half a step are
+/// below what the first number of more digits stands for.
+const WIDEST: [[u32; 64]; 9] = {
+    let mut all = [[0; 64]; 9];
+    let mut at = 0;
+    while at < 9 * 64 {
+        let (unit, decimals, step) = (at / 64, at / 8 % 8, at % 8);
+        let (digits, divisor) = (if decimals > 0 { 8 } else { 9 }, step as u128 * NANOGRAMS[unit] as u128);
+        let multiplier = 1000 * POWERS[decimals] as u128;
+        if decimals <= 6 && matches!(step, 1 | 2 | 5) && divisor >= multiplier {
+            let size = (NANOGRAMS[unit] as u128 * POWERS[digits] as u128 - divisor / 2 - 1) / multiplier;
+            all[unit][at % 64] = if size < u32::MAX as u128 { size as u32 } else { u32::MAX };
+        }
+        at += 1;
+    }
+    all
+};
+
 impl Scale {
-    pub fn is_allowed(&self) -> bool {
-        self.decimals <= 6 && matches!(self.step, 1 | 2 | 5) && self.divisor() >= self.multiplier()
+    /// Whether it may stand in a profile with a lowest net of this size, which is not 0. Nothing is divided, and nothing ends it early.
+    pub fn is_allowed(&self, lowest: u32) -> bool {
+        let Scale { unit, decimals, step } = *self;
+        let at = usize::from(decimals & 7) * 8 + usize::from(step & 7);
+        ((decimals | step) < 8) & (lowest <= WIDEST[unit as usize][at])
     }
 
     fn divisor(&self) -> u64 {
@@ -87,10 +137,6 @@ impl Scale {
     /// Whether a difference of nets is 30 display steps or more; the scale is allowed, so nothing overflows.
     pub fn is_thirty_steps(&self, change: u64) -> bool {
         change * self.multiplier() >= 30 * self.divisor()
-    }
-
-    pub fn prints(&self, net: i64) -> bool {
-        fits(self.places(net), self.decimals)
     }
 }
 

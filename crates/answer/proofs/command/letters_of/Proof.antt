@@ -64,7 +64,10 @@ returns-19 : tie.Need-returns-19
 returns-19 c = rw (c .match .keys19)
 
 returns-20 : tie.Need-returns-20
-returns-20 c = rw (no-name (c .before .args .command) (none-of commandCount (c .before .args .command) (c .match .rest)))
+returns-20 c = rw (c .match .keys20)
+
+returns-21 : tie.Need-returns-21
+returns-21 c = rw (no-name (c .before .args .command) (none-of commandCount (c .before .args .command) (c .match .rest)))
 
 pub letters-of-spec : {M : Type 1} → statement M
 letters-of-spec =
@@ -89,4 +92,5 @@ letters-of-spec =
     returns-17
     returns-18
     returns-19
-    returns-20)
+    returns-20
+    returns-21)

@@ -83,8 +83,12 @@ unfolding endsOf placeAmong
 returns-19 c = rw (c .match .keys19)
 
 returns-20 : tie.Need-returns-20
+unfolding endsOf placeAmong
+returns-20 c = rw (c .match .keys20)
+
+returns-21 : tie.Need-returns-21
 unfolding endsOf
-returns-20 c = sym (no-ends (c .before .args .ends) (c .match .rest))
+returns-21 c = sym (no-ends (c .before .args .ends) (c .match .rest))
 
 pub place-of-ends-spec : {M : Type 1} → statement M
 place-of-ends-spec =
@@ -109,4 +113,5 @@ place-of-ends-spec =
     returns-17
     returns-18
     returns-19
-    returns-20)
+    returns-20
+    returns-21)

@@ -68,6 +68,12 @@ show-text-requires : tie.Need-show-text-requires
 show-text-requires c κs =
     leb-true (c .before .verdict8 .given .0 .0) 20 (rw (c .before .verdict8 .given .1) at (c .before .before .before .before .pre))
 
+enum-known-verdict-9 : tie.Need-enum-known-verdict-9
+enum-known-verdict-9 c = search needs
+
+select-requires : tie.Need-select-requires
+select-requires c κs = search needs
+
 returns : tie.Need-returns
 returns c = rw (c .answered .ensures, c .before .before .verdict .given .1)
 
@@ -98,6 +104,9 @@ returns-8 c =
 returns-9 : tie.Need-returns-9
 returns-9 c = rw (c .show-text .ensures, c .before .before .verdict8 .given .1)
 
+returns-10 : tie.Need-returns-10
+returns-10 c = rw (c .select .ensures, c .before .before .verdict9 .given .1)
+
 pub performed-spec : {M : Type 1} → statement M
 performed-spec =
     tie.close
@@ -123,6 +132,8 @@ performed-spec =
     begun-requires
     enum-known-verdict-8
     show-text-requires
+    enum-known-verdict-9
+    select-requires
     returns
     returns-2
     returns-3
@@ -131,4 +142,5 @@ performed-spec =
     returns-6
     returns-7
     returns-8
-    returns-9)
+    returns-9
+    returns-10)

@@ -1,5 +1,5 @@
 use borrow.Author.Needs.{needs}
-use Rattle.commands.proofs.OwnRule.{run-informed, run-weighing, run-zeroing, run-resetting, run-showing, run-changing, run-taring, run-unknown}
+use Rattle.commands.proofs.OwnRule.{run-informed, run-weighing, run-zeroing, run-resetting, run-showing, run-changing, run-taring, run-telling, run-unknown}
 use Rattle.commands.proofs.run.run.Statement.{statement}
 use Rattle.commands.proofs.run.run.Tie as tie
 
@@ -57,6 +57,12 @@ run-taring-requires c κs = search needs
 enum-told-8 : tie.Need-enum-told-8
 enum-told-8 c = search needs
 
+tell-unit-requires : tie.Need-tell-unit-requires
+tell-unit-requires c κs = search needs
+
+enum-told-9 : tie.Need-enum-told-9
+enum-told-9 c = search needs
+
 unanswered-requires-2 : tie.Need-unanswered-requires-2
 unanswered-requires-2 c κs = search needs
 
@@ -82,7 +88,10 @@ returns-7 : tie.Need-returns-7
 returns-7 c = search (needs, run-taring)
 
 returns-8 : tie.Need-returns-8
-returns-8 c = search (needs, run-unknown)
+returns-8 c = search (needs, run-telling)
+
+returns-9 : tie.Need-returns-9
+returns-9 c = search (needs, run-unknown)
 
 pub run-spec : {M : Type 1} → statement M
 run-spec =
@@ -106,6 +115,8 @@ run-spec =
     enum-told-7
     run-taring-requires
     enum-told-8
+    tell-unit-requires
+    enum-told-9
     unanswered-requires-2
     returns
     returns-2
@@ -114,4 +125,5 @@ run-spec =
     returns-5
     returns-6
     returns-7
-    returns-8)
+    returns-8
+    returns-9)

@@ -4,7 +4,7 @@ use mathlib.Core.Path.{sym, ap}
 use lib.ListN.{length}
 use Rattle.answer.specs.declared.answer.Answer.{Answer}
 use Rattle.answer.specs.Lines.{lineOf}
-use Rattle.answer.proofs.Lengths.{plain-length, weight-length, error-length, text-length, listed-length, list-length, versions-length}
+use Rattle.answer.proofs.Lengths.{plain-length, weight-length, error-length, text-length, listed-length, list-length, versions-length, unit-length}
 use borrow.Author.Needs.{needs}
 use native.Mathlib.Omega.{arith}
 use Rattle.emit.proofs.emit.line_length.Statement.{statement}
@@ -67,6 +67,15 @@ enum-told-3 c = search needs
 enum-told-4 : tie.Need-enum-told-4
 enum-told-4 c = search needs
 
+enum-known-answer-5 : tie.Need-enum-known-answer-5
+enum-known-answer-5 c = search needs
+
+code-length-requires : tie.Need-code-length-requires
+code-length-requires c κs = search needs
+
+add-result-7 : tie.Need-add-result-7
+add-result-7 c = search needs
+
 returns : tie.Need-returns
 unfolding lineOf
 returns c = sym (ap (λ (a : Answer). length (lineOf a (c .before .before .before .args .text .now))) (c .enum-told .given .1))
@@ -113,6 +122,12 @@ returns-8 c =
     let line = c .enum-told4 in
     omega (arith, ap (λ (a : Answer). length (lineOf a t)) (line .given .1), versions-length t)
 
+returns-9 : tie.Need-returns-9
+returns-9 c =
+    let t = c .before .before .before .before .before .args .text .now in
+    let line = c .before .before .answer5 in
+    omega (arith, ap (λ (a : Answer). length (lineOf a t)) (line .given .1), unit-length (line .given .0 .0) t, c .code-length .ensures .0)
+
 pub line-length-spec : {M : Type 1} → statement M
 line-length-spec =
     tie.close
@@ -136,6 +151,9 @@ line-length-spec =
     add-result-6
     enum-told-3
     enum-told-4
+    enum-known-answer-5
+    code-length-requires
+    add-result-7
     returns
     returns-2
     returns-3
@@ -143,4 +161,5 @@ line-length-spec =
     returns-5
     returns-6
     returns-7
-    returns-8)
+    returns-8
+    returns-9)

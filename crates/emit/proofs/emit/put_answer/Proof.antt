@@ -77,6 +77,15 @@ put-requires c κs =
     let start = c .before .before .before .before .before .before in
     line-room (start .args .out .now) (ap (λ (a : Answer). lineOf a (start .args .text .now)) (c .before .before .enum-told3 .given .1)) (start .pre)
 
+enum-known-answer-6 : tie.Need-enum-known-answer-6
+enum-known-answer-6 c = search needs
+
+put-host-unit-requires : tie.Need-put-host-unit-requires
+unfolding lineOf
+put-host-unit-requires c κs =
+    let start = c .before .before .before .before .before .before in
+    line-room (start .args .out .now) (ap (λ (a : Answer). lineOf a (start .args .text .now)) (c .before .before .answer6 .given .1)) (start .pre)
+
 returns : tie.Need-returns
 unfolding lineOf
 returns c =
@@ -146,6 +155,15 @@ returns-8 c =
     let start = c .before .before .before .before .before .before .before .before .before in
     line-laid (start .args .out .now) (ap (λ (a : Answer). lineOf a (start .args .text .now)) (c .before .before .before .before .before .enum-told3 .given .1)) (c .before .before .put .ensures)
 
+same-length-8 : tie.Need-same-length-8
+same-length-8 c = search needs
+
+returns-9 : tie.Need-returns-9
+unfolding lineOf
+returns-9 c =
+    let start = c .before .before .before .before .before .before .before .before .before in
+    line-laid (start .args .out .now) (ap (λ (a : Answer). lineOf a (start .args .text .now)) (c .before .before .before .before .before .answer6 .given .1)) (c .before .before .put-host-unit .ensures)
+
 pub put-answer-spec : {M : Type 1} → statement M
 put-answer-spec =
     tie.close
@@ -166,6 +184,8 @@ put-answer-spec =
     enum-told-3
     slice-aggregate-put
     put-requires
+    enum-known-answer-6
+    put-host-unit-requires
     returns
     same-length
     returns-2
@@ -180,4 +200,6 @@ put-answer-spec =
     same-length-6
     returns-7
     same-length-7
-    returns-8)
+    returns-8
+    same-length-8
+    returns-9)

@@ -40,6 +40,9 @@ enum-told-3 c = search needs
 enum-told-4 : tie.Need-enum-told-4
 enum-told-4 c = search needs
 
+enum-told-5 : tie.Need-enum-told-5
+enum-told-5 c = search needs
+
 returns : tie.Need-returns
 returns c = rw (c .enum-told .given .1)
 
@@ -64,6 +67,9 @@ returns-7 c = rw (c .enum-told3 .given .1)
 returns-8 : tie.Need-returns-8
 returns-8 c = rw (c .enum-told4 .given .1)
 
+returns-9 : tie.Need-returns-9
+returns-9 c = rw (c .enum-told5 .given .1)
+
 pub can-form-spec : {M : Type 1} → statement M
 can-form-spec =
     tie.close
@@ -80,6 +86,7 @@ can-form-spec =
     enum-known-answer-4
     enum-told-3
     enum-told-4
+    enum-told-5
     returns
     returns-2
     returns-3
@@ -87,4 +94,5 @@ can-form-spec =
     returns-5
     returns-6
     returns-7
-    returns-8)
+    returns-8
+    returns-9)

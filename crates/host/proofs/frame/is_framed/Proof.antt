@@ -62,6 +62,15 @@ slice-aggregate-same-text c = search needs
 same-text-requires : tie.Need-same-text-requires
 same-text-requires c κs = search needs
 
+enum-told-8 : tie.Need-enum-told-8
+enum-told-8 c = search needs
+
+is-host-unit-framed-requires : tie.Need-is-host-unit-framed-requires
+is-host-unit-framed-requires c κs = search needs
+
+is-ended-requires-6 : tie.Need-is-ended-requires-6
+is-ended-requires-6 c κs = search needs
+
 returns : tie.Need-returns
 returns c = search needs
 
@@ -87,6 +96,9 @@ returns-8 : tie.Need-returns-8
 unfolding lineOf
 returns-8 c = rw (c .before .before .enum-told7 .given .1) (c .same-text .ensures)
 
+returns-9 : tie.Need-returns-9
+returns-9 c = rw (c .before .before .enum-told8 .given .1, c .before .is-host-unit-framed .ensures, c .is-ended6 .ensures)
+
 pub is-framed-spec : {M : Type 1} → statement M
 is-framed-spec =
     tie.close
@@ -110,6 +122,9 @@ is-framed-spec =
     enum-told-7
     slice-aggregate-same-text
     same-text-requires
+    enum-told-8
+    is-host-unit-framed-requires
+    is-ended-requires-6
     returns
     returns-2
     returns-3
@@ -117,4 +132,5 @@ is-framed-spec =
     returns-5
     returns-6
     returns-7
-    returns-8)
+    returns-8
+    returns-9)

@@ -1,7 +1,7 @@
 -- `line::judge::last_rows` meets its contract.
 -- Assumes nothing.
 use borrow.Author.Needs.{needs}
-use Rattle.line.proofs.Rows.{show-parameter, show-nothing, preset-parameter, preset-asked, change-parameter, change-asked, no-sample, runs}
+use Rattle.line.proofs.Rows.{show-parameter, show-nothing, preset-parameter, preset-asked, change-parameter, change-asked, select-parameter, select-asked, no-sample, runs}
 use Rattle.line.proofs.judge.last_rows.Statement.{statement}
 use Rattle.line.proofs.judge.last_rows.Tie as tie
 
@@ -68,14 +68,35 @@ returns-5 c = search (needs, change-parameter)
 returns-6 : tie.Need-returns-6
 returns-6 c = search (needs, change-asked)
 
+add-start-4 : tie.Need-add-start-4
+add-start-4 c = search needs
+
+sub-select-rule : tie.Need-sub-select-rule
+sub-select-rule c = search needs
+
+part-select-rule-start : tie.Need-part-select-rule-start
+part-select-rule-start c = search needs
+
+part-select-rule-end : tie.Need-part-select-rule-end
+part-select-rule-end c = search needs
+
+select-rule-requires : tie.Need-select-rule-requires
+select-rule-requires c κs = search needs
+
+returns-7 : tie.Need-returns-7
+returns-7 c = search (needs, select-parameter)
+
+returns-8 : tie.Need-returns-8
+returns-8 c = search (needs, select-asked)
+
 lacks-sample-requires : tie.Need-lacks-sample-requires
 lacks-sample-requires c κs = search needs
 
-returns-7 : tie.Need-returns-7
-returns-7 c = search (needs, no-sample)
+returns-9 : tie.Need-returns-9
+returns-9 c = search (needs, no-sample)
 
-returns-8 : tie.Need-returns-8
-returns-8 c = search (needs, runs)
+returns-10 : tie.Need-returns-10
+returns-10 c = search (needs, runs)
 
 pub last-rows-spec : {M : Type 1} → statement M
 last-rows-spec =
@@ -102,6 +123,13 @@ last-rows-spec =
     change-rule-requires
     returns-5
     returns-6
-    lacks-sample-requires
+    add-start-4
+    sub-select-rule
+    part-select-rule-start
+    part-select-rule-end
+    select-rule-requires
     returns-7
-    returns-8)
+    returns-8
+    lacks-sample-requires
+    returns-9
+    returns-10)

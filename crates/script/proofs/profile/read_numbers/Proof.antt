@@ -10,15 +10,6 @@ after-word-requires c κs = search needs
 after-word-requires-2 : tie.Need-after-word-requires-2
 after-word-requires-2 c κs = search needs
 
-after-word-requires-3 : tie.Need-after-word-requires-3
-after-word-requires-3 c κs = search needs
-
-after-word-requires-4 : tie.Need-after-word-requires-4
-after-word-requires-4 c κs = search needs
-
-after-word-requires-5 : tie.Need-after-word-requires-5
-after-word-requires-5 c κs = search needs
-
 first-number-requires : tie.Need-first-number-requires
 first-number-requires c κs = search needs
 
@@ -28,26 +19,14 @@ first-number-requires-2 c κs = search needs
 first-number-requires-3 : tie.Need-first-number-requires-3
 first-number-requires-3 c κs = search needs
 
-first-number-requires-4 : tie.Need-first-number-requires-4
-first-number-requires-4 c κs = search needs
-
-first-word-requires : tie.Need-first-word-requires
-first-word-requires c κs = search needs
-
-read-unit-requires : tie.Need-read-unit-requires
-read-unit-requires c κs = search needs
-
-first-number-requires-5 : tie.Need-first-number-requires-5
-first-number-requires-5 c κs = search needs
-
-after-word-requires-6 : tie.Need-after-word-requires-6
-after-word-requires-6 c κs = search needs
+after-word-requires-3 : tie.Need-after-word-requires-3
+after-word-requires-3 c κs = search needs
 
 number-requires : tie.Need-number-requires
 number-requires c κs = search needs
 
 returns : tie.Need-returns
-returns c = rw (c .number .ensures, c .before .after-word6 .ensures, c .before .before .first-number5 .ensures, c .before .before .before .read-unit .ensures, c .before .before .before .before .first-word .ensures, c .before .before .before .before .before .first-number4 .ensures, c .before .before .before .before .before .before .first-number3 .ensures, c .before .before .before .before .before .before .before .first-number2 .ensures, c .before .before .before .before .before .before .before .before .first-number .ensures, c .before .before .before .before .before .before .before .before .before .after-word5 .ensures, c .before .before .before .before .before .before .before .before .before .before .after-word4 .ensures, c .before .before .before .before .before .before .before .before .before .before .before .after-word3 .ensures, c .before .before .before .before .before .before .before .before .before .before .before .before .after-word2 .ensures, c .before .before .before .before .before .before .before .before .before .before .before .before .before .after-word .ensures)
+returns c = rw (c .number .ensures, c .before .after-word3 .ensures, c .before .before .first-number3 .ensures, c .before .before .before .first-number2 .ensures, c .before .before .before .before .first-number .ensures, c .before .before .before .before .before .after-word2 .ensures, c .before .before .before .before .before .before .after-word .ensures)
 
 pub read-numbers-spec : {M : Type 1} → statement M
 read-numbers-spec =
@@ -55,16 +34,9 @@ read-numbers-spec =
     (tie.spec
     after-word-requires
     after-word-requires-2
-    after-word-requires-3
-    after-word-requires-4
-    after-word-requires-5
     first-number-requires
     first-number-requires-2
     first-number-requires-3
-    first-number-requires-4
-    first-word-requires
-    read-unit-requires
-    first-number-requires-5
-    after-word-requires-6
+    after-word-requires-3
     number-requires
     returns)

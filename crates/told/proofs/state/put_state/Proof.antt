@@ -33,6 +33,9 @@ put-display-requires c κs = search needs
 put-line-requires : tie.Need-put-line-requires
 put-line-requires c κs = search needs
 
+put-unit-requires : tie.Need-put-unit-requires
+put-unit-requires c κs = search needs
+
 slice-aggregate-put-2 : tie.Need-slice-aggregate-put-2
 slice-aggregate-put-2 c = search needs
 
@@ -43,7 +46,8 @@ returns : tie.Need-returns
 unfolding stateLine
 returns c =
     let end = c .before .before in
-    let line = end .before .before .before .before .before in
+    let unit = end .before .before .before .before .before in
+    let line = unit .before .before .before .before in
     let shows = line .before .before .before .before in
     let repeats = shows .before .before .before .before in
     let waits = repeats .before .before .before .before in
@@ -60,6 +64,7 @@ returns c =
     then repeats .put-sending .ensures
     then shows .put-display .ensures
     then line .put-line .ensures
+    then unit .put-unit .ensures
     then end .put2 .ensures)
 
 same-length : tie.Need-same-length
@@ -78,6 +83,7 @@ put-state-spec =
     put-sending-requires
     put-display-requires
     put-line-requires
+    put-unit-requires
     slice-aggregate-put-2
     put-requires-2
     same-length

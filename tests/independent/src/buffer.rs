@@ -187,4 +187,4 @@ impl Module {
 
 const UNFIT: Outcome = Outcome { refusal: 3, n: 0 };
 /// Room for the answer to any byte.
-const AMPLE: [u8; 256] = [0; 256];
+const AMPLE: [u8; 384] = [0; 384];

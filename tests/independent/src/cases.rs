@@ -1,7 +1,8 @@
 //! The bench cases of document 01, the corners of document 02's requests, the worked examples of the manuals and some states, as
 //! scripts with what they print.
 
-use crate::weight::{Scale, Unit};
+use crate::profile::Profile;
+use crate::weight::{Scale, Unit, UNITS};
 
 pub struct Case {
     pub name: &'static str,
@@ -10,25 +11,47 @@ pub struct Case {
 }
 
 /// Profile A's numbers.
-const A: &str = "profile 220000000 1000000 4400000 3 g 4 1";
+const A: &str = "profile 220000000 1000000 4400000 3";
 const ON: &str = "I4 A \"VA-0001\"";
 
-/// A case on a profile, all texts but I4's empty: the lines sent and the lines printed after the power-on answer.
-fn on_profile(name: &'static str, profile: &str, sent: &[&str], printed: &[&str]) -> Case {
-    let start = ["room 256", profile, "text 2 ", "text 3 ", "text 4 VA-0001", "text 5 ", "on"];
-    let script = [&start[..], sent].concat().iter().map(|line| format!("{line}\n")).collect();
-    let prints = [&[ON], printed].concat().iter().map(|line| format!("{line}\r\n")).collect();
+/// Profile A whole, in the lines of a script.
+pub fn profile_a() -> Vec<String> {
+    let units = UNITS.map(|unit| format!("unit {} {} 1", unit.name(), if unit == Unit::Gram { 4 } else { 2 }));
+    let texts = ["text 2 ", "text 3 ", "text 4 VA-0001", "text 5 "].map(String::from);
+    [A.to_string()].into_iter().chain(units).chain(texts).collect()
+}
+
+/// A case on profile A with some of its lines set anew, a comma between two: the lines sent and the lines printed after the power-on
+/// answer. The first unit among those lines is set by M21. A `state` line that names no unit ends with that one.
+fn on_profile(name: &'static str, lines: &str, sent: &[&str], printed: &[&str]) -> Case {
+    let lines: Vec<&str> = lines.split(", ").filter(|line| !line.is_empty()).collect();
+    let named = lines.iter().find_map(|line| line.strip_prefix("unit ")?.split(' ').next());
+    let unit = Unit::named(named.unwrap_or("g").as_bytes()).expect("one of the nine");
+    let (profile, set) = (profile_a(), set_unit(unit));
+    let profile: Vec<&str> = profile.iter().map(String::as_str).chain(lines).collect();
+    let (set, answered): (&[&str], &[&str]) = if unit == Unit::Gram { (&[], &[]) } else { (&[&set], &["M21 A"]) };
+    let script = [&["room 384"], &profile[..], &["on"], set, sent].concat().iter().map(|line| format!("{line}\n")).collect();
+    let ended = |line: &&str| match line.strip_prefix("state ") {
+        Some(words) if !words.contains(" unit ") => format!("{line} unit {}\r\n", unit.name()),
+        _ => format!("{line}\r\n"),
+    };
+    let prints = [&[ON], answered, printed].concat().iter().map(ended).collect();
     Case { name, script, prints }
 }
 
-fn on_a(name: &'static str, sent: &[&str], printed: &[&str]) -> Case {
-    on_profile(name, A, sent, printed)
+/// The line that sets a unit.
+pub fn set_unit(unit: Unit) -> String {
+    format!("> M21 0 {}", unit.code())
 }
 
-/// A profile that power-on refuses.
-fn refused(name: &'static str, profile: &str) -> Case {
-    let granted = on_a(name, &[profile, "on"], &["refused 1"]);
-    Case { name, ..granted }
+fn on_a(name: &'static str, sent: &[&str], printed: &[&str]) -> Case {
+    on_profile(name, "", sent, printed)
+}
+
+/// Lines that make a profile of profile A which power-on refuses, a comma between two.
+fn refused(name: &'static str, lines: &str) -> Case {
+    let sent: Vec<&str> = lines.split(", ").chain(["on"]).collect();
+    on_a(name, &sent, &["refused 1"])
 }
 
 pub fn all() -> Vec<Case> {
@@ -36,13 +59,15 @@ pub fn all() -> Vec<Case> {
     let on_change = [sr_lines(), sr_starts_and_ends(), sr_memory(), sr_passed_over(), sr_thresholds(), sr_refusals()];
     let buffers = [buffer_lines(), buffer_marks(), buffer_rooms(), buffer_lengths(), buffer_refusals()];
     let typed = [typed_to_steps(), typed_to_micrograms(), typed_limits(), typed_thresholds()];
-    base.into_iter().chain(on_change).chain(buffers).chain(typed).flatten().collect()
+    let lines = [unit_lines(), unit_orders(), unit_kept()];
+    let units = [unit_weights(), unit_typed(), unit_on_change(), unit_profiles(), unit_rooms(), unit_scripts()];
+    base.into_iter().chain(on_change).chain(buffers).chain(typed).chain(lines).chain(units).flatten().collect()
 }
 
 fn printing() -> Vec<Case> {
-    let fives = "profile 220000000 1000000 4400000 3 g 4 5";
-    let carats = "profile 220000000 1000000 4400000 3 ct 3 1";
-    let ounces = "profile 220000000 1000000 4400000 3 oz 5 1";
+    let fives = "unit g 4 5";
+    let carats = "unit ct 3 1";
+    let ounces = "unit oz 5 1";
     vec![
         on_a("14,256,049", &["s 14256049", "> S"], &["S S    14.2560 g"]),
         on_a("14,256,050", &["s 14256050", "> S"], &["S S    14.2561 g"]),
@@ -142,21 +167,21 @@ fn lines() -> Vec<Case> {
 
 fn profiles() -> Vec<Case> {
     vec![
-        on_profile("milligrams that fit", "profile 99999999 0 4400000 3 mg 3 1", &["> TA"], &["TA A      0.000 mg"]),
-        refused("milligrams that do not fit", "profile 100000000 0 4400000 3 mg 3 1"),
-        refused("a step below a microgram", "profile 1000000 0 0 3 GN 5 1"),
-        on_profile("a step of two", "profile 1000000 0 0 3 GN 5 2", &["> TA"], &["TA A    0.00000 GN"]),
-        refused("no capacity", "profile 0 0 0 3 g 4 1"),
-        refused("capacity above its limit", "profile 1000000001 0 0 3 g 2 1"),
-        refused("margin above capacity", "profile 1000 1001 0 3 g 4 1"),
-        refused("zeroing range above capacity", "profile 1000 0 1001 3 g 4 1"),
-        refused("no patience", "profile 1000 0 0 0 g 4 1"),
-        refused("patience above its limit", "profile 1000 0 0 1001 g 4 1"),
-        refused("seven decimals", "profile 1000 0 0 3 oz 7 1"),
-        refused("a step of three", "profile 1000 0 0 3 g 4 3"),
+        on_profile("milligrams that fit", "profile 99999999 0 4400000 3, unit mg 3 1", &["> TA"], &["TA A      0.000 mg"]),
+        refused("milligrams that do not fit", "profile 100000000 0 4400000 3, unit mg 3 1"),
+        refused("a step below a microgram", "profile 1000000 0 0 3, unit GN 5 1"),
+        on_profile("a step of two", "profile 1000000 0 0 3, unit GN 5 2", &["> TA"], &["TA A    0.00000 GN"]),
+        refused("no capacity", "profile 0 0 0 3"),
+        refused("capacity above its limit", "profile 1000000001 0 0 3, unit mg 0 1"),
+        refused("margin above capacity", "profile 1000 1001 0 3"),
+        refused("zeroing range above capacity", "profile 1000 0 1001 3"),
+        refused("no patience", "profile 1000 0 0 0"),
+        refused("patience above its limit", "profile 1000 0 0 1001"),
+        refused("seven decimals", "profile 1000 0 0 3, unit oz 7 1"),
+        refused("a step of three", "profile 1000 0 0 3, unit g 4 3"),
         on_a(
             "refusals on a changed profile",
-            &["s 5000", "> Z", "profile 220000000 1000000 4999 3 g 4 1", "> DW", "profile 0 1 4999 3 g 4 1", "s 1", A, "> DW"],
+            &["s 5000", "> Z", "profile 220000000 1000000 4999 3", "> DW", "profile 0 1 4999 3", "s 1", A, "> DW"],
             &["Z A", "refused 2", "refused 2", "refused 2", "refused 2", "refused 1", "DW A"],
         ),
     ]
@@ -234,7 +259,7 @@ fn states() -> Vec<Case> {
 
 /// Identification S, always; the parameter has the form of TA's.
 fn sr_lines() -> Vec<Case> {
-    let milligrams = "profile 99999999 0 4400000 3 mg 3 1";
+    let milligrams = "profile 99999999 0 4400000 3, unit mg 3 1";
     let waits = |set: &str| format!("state zero 0 tare 0 sample none waits SR 0 {set} repeats no shows weight line 0");
     vec![
         on_a("SR x", &["> SR x"], &["S L"]),
@@ -381,7 +406,7 @@ fn sr_starts_and_ends() -> Vec<Case> {
         ),
         on_profile(
             "003 SR",
-            "profile 220000000 1000000 4400000 3 g 2 1",
+            "unit g 2 1",
             &["s 100000000", "> SR 10.00 g", "u 115230000", "s 200000000"],
             &["S S     100.00 g", "S D     115.23 g", "S S     200.00 g"],
         ),
@@ -513,7 +538,7 @@ fn sr_passed_over() -> Vec<Case> {
 
 /// Each threshold from both sides; equality fires.
 fn sr_thresholds() -> Vec<Case> {
-    let ounces = "profile 220000000 1000000 4400000 3 oz 5 1";
+    let ounces = "unit oz 5 1";
     vec![
         on_a("an eighth above 30 steps", &["s 24001", "> SR", "s 27001", "s 27002"], &["S S     0.0240 g", "S S     0.0270 g"]),
         on_a("an eighth and 30 steps", &["s 24000", "> SR", "s 26999", "s 27000"], &["S S     0.0240 g", "S S     0.0270 g"]),
@@ -537,7 +562,7 @@ fn sr_thresholds() -> Vec<Case> {
         ),
         on_profile(
             "30 steps of five",
-            "profile 220000000 1000000 4400000 3 g 4 5",
+            "unit g 4 5",
             &["s 0", "> SR", "s -14999", "s 14999", "s 15000"],
             &["S S     0.0000 g", "S S     0.0150 g"],
         ),
@@ -559,48 +584,27 @@ fn sr_refusals() -> Vec<Case> {
     vec![
         on_a(
             "a last net above C",
-            &[
-                "s 5000",
-                "> SR",
-                "profile 5000 0 0 3 g 4 1",
-                "b 53",
-                "profile 4999 0 0 3 g 4 1",
-                "b 53",
-                "s 1",
-                A,
-                "s 5001",
-                "> Q",
-            ],
+            &["s 5000", "> SR", "profile 5000 0 0 3", "b 53", "profile 4999 0 0 3", "b 53", "s 1", A, "s 5001", "> Q"],
             &["S S     0.0050 g", "refused 2", "refused 2", "ES"],
         ),
         on_a(
             "a last net below -(U+C)",
-            &[
-                "s 5000",
-                "> T",
-                "s -1000",
-                "> SR",
-                "profile 5000 1000 0 3 g 4 1",
-                "b 53",
-                "profile 5000 999 0 3 g 4 1",
-                "b 53",
-                "u 0",
-            ],
+            &["s 5000", "> T", "s -1000", "> SR", "profile 5000 1000 0 3", "b 53", "profile 5000 999 0 3", "b 53", "u 0"],
             &["T S     0.0050 g", "S S    -0.0060 g", "refused 2", "refused 2"],
         ),
         on_a(
             "a set threshold above C, running",
-            &["s 0", "> SR 0.005 g", "profile 5000 0 0 3 g 4 1", "b 53", "profile 4999 0 0 3 g 4 1", "b 53", "s 1", A, "s 5000"],
+            &["s 0", "> SR 0.005 g", "profile 5000 0 0 3", "b 53", "profile 4999 0 0 3", "b 53", "s 1", A, "s 5000"],
             &["S S     0.0000 g", "refused 2", "refused 2", "S S     0.0050 g"],
         ),
         on_a(
             "a set threshold above C, waiting",
-            &["> SR 0.005 g", "profile 5000 0 0 3 g 4 1", "b 53", "profile 4999 0 0 3 g 4 1", "b 53", "s 1", A, "s 5000"],
+            &["> SR 0.005 g", "profile 5000 0 0 3", "b 53", "profile 4999 0 0 3", "b 53", "s 1", A, "s 5000"],
             &["refused 2", "refused 2", "S S     0.0050 g"],
         ),
         on_a(
             "what an SR that is off left behind does not count",
-            &["s 5000", "> SR 0.005 g", "> @", "profile 4999 0 0 3 g 4 1", "> DW", "u 1"],
+            &["s 5000", "> SR 0.005 g", "> @", "profile 4999 0 0 3", "> DW", "u 1"],
             &["S S     0.0050 g", ON, "DW A"],
         ),
     ]
@@ -690,9 +694,9 @@ fn buffer_rooms() -> Vec<Case> {
         on_a("S I twice with room 8", &["room 8", &twice, "state", "w 0A"], &["S I", "took 7", &line_cr, "S I"]),
         on_a("S I twice with room 9", &["room 9", &twice, "state", "b 0A"], &["S I", "took 7", &line_cr, "S I"]),
         on_a("S I twice with room 10", &["room 10", &twice, "state"], &["S I", "S I", &held("0")]),
-        on_a("a shorter answer is not reached", &["room 243", &listed, "state"], &["took 3", &line_cr]),
-        on_a("I0 alone fits", &["room 247", &listed, "state", "w 0A"], &[&LIST[..], &["took 6", &held("1 cr"), "ES"]].concat()),
-        on_a("I0 and ES fit", &["room 248", &listed, "state"], &[&full[..], &[&held("0")]].concat()),
+        on_a("a shorter answer is not reached", &["room 257", &listed, "state"], &["took 3", &line_cr]),
+        on_a("I0 alone fits", &["room 261", &listed, "state", "w 0A"], &[&LIST[..], &["took 6", &held("1 cr"), "ES"]].concat()),
+        on_a("I0 and ES fit", &["room 262", &listed, "state"], &[&full[..], &[&held("0")]].concat()),
         on_a("LF with room 0", &["b 51 0D", "room 0", "w 0A", "state"], &["took 0", &held("1 cr")]),
         on_a(
             "LF and more with room 3",
@@ -733,9 +737,9 @@ fn buffer_rooms() -> Vec<Case> {
             ],
         ),
         on_a(
-            "the largest room holds sixteen lists",
+            "the largest room holds fifteen lists",
             &["room 4096", &whole(&"I0\r\n".repeat(17)), "w 0A"],
-            &[&LIST.repeat(16)[..], &["took 67"], &LIST].concat(),
+            &[&LIST.repeat(15)[..], &["took 63"], &LIST].concat(),
         ),
     ]
 }
@@ -785,8 +789,8 @@ fn buffer_lengths() -> Vec<Case> {
 
 /// 1, then 2, then 5; never 3.
 fn buffer_refusals() -> Vec<Case> {
-    let bad = "profile 0 1000000 4400000 3 g 4 1";
-    let narrow = "profile 220000000 1000000 4999 3 g 4 1";
+    let bad = "profile 0 1000000 4400000 3";
+    let narrow = "profile 220000000 1000000 4999 3";
     let state = "state zero 5000 tare 0 sample s 5000 waits none repeats no shows weight line 0";
     let (full, long) = (&run(4_096, "53")[..], &run(4_097, "53")[..]);
     vec![
@@ -815,9 +819,9 @@ fn buffer_refusals() -> Vec<Case> {
 
 // Document 02, No. 3: a typed tare has readable places only.
 
-const GRAMS_IN_FIVES: &str = "profile 1000000000 0 0 3 g 0 5";
-const OUNCES_IN_FIVES: &str = "profile 1000000000 0 0 3 oz 0 5";
-const OUNCES: &str = "profile 220000000 1000000 4400000 3 oz 5 1";
+const GRAMS_IN_FIVES: &str = "profile 1000000000 0 0 3, unit g 0 5, unit mg 0 1";
+const OUNCES_IN_FIVES: &str = "profile 1000000000 0 0 3, unit oz 0 5, unit mg 0 1";
+const OUNCES: &str = "unit oz 5 1";
 
 /// The state after power-on with this tare.
 fn tared(tare: u32) -> String {
@@ -826,9 +830,9 @@ fn tared(tare: u32) -> String {
 
 /// The first rounding, to the display step.
 fn typed_to_steps() -> Vec<Case> {
-    let fives = "profile 220000000 1000000 4400000 3 g 4 5";
-    let twos = "profile 220000000 1000000 4400000 3 g 4 2";
-    let millionths = "profile 9999999 0 0 3 g 6 5";
+    let fives = "unit g 4 5";
+    let twos = "unit g 4 2";
+    let millionths = "profile 9999999 0 0 3, unit g 6 5";
     vec![
         on_a("half a step", &["> TA 0.00005 g", "state"], &["TA A     0.0001 g", &tared(100)]),
         on_a(
@@ -882,7 +886,7 @@ fn typed_to_steps() -> Vec<Case> {
         ),
         on_profile(
             "no decimals",
-            "profile 220000000 1000000 4400000 3 g 0 1",
+            "unit g 0 1",
             &["> TA 0.499999 g", "> TA 0.5 g", "state", "> TA 219.5 g", "> TA 220.499999 g", "> TA 220.5 g"],
             &["TA A          0 g", "TA A          1 g", &tared(1_000_000), "TA A        220 g", "TA A        220 g", "TA L"],
         ),
@@ -913,13 +917,13 @@ fn typed_to_micrograms() -> Vec<Case> {
         ),
         on_profile(
             "half a microgram in other units",
-            "profile 220000000 1000000 4400000 3 GN 2 1",
+            "unit GN 2 1",
             &["> TA 50 GN", "state", "> TA 49.995 GN", "state"],
             &["TA A      50.00 GN", &tared(3_239_946), "TA A      50.00 GN", &tared(3_239_946)],
         ),
         on_profile(
             "not from the micrograms of the typed number",
-            "profile 99999999 0 0 3 mg 2 1",
+            "profile 99999999 0 0 3, unit mg 2 1",
             &["> TA 0.0045 mg", "state", "> TA 0.004999 mg", "> TA 0.005 mg", "state"],
             &["TA A       0.00 mg", &tared(0), "TA A       0.00 mg", "TA A       0.01 mg", &tared(10)],
         ),
@@ -928,8 +932,8 @@ fn typed_to_micrograms() -> Vec<Case> {
 
 /// The microgram result alone is compared with C.
 fn typed_limits() -> Vec<Case> {
-    let ounces_to = |capacity: u32| format!("profile {capacity} 0 0 3 oz 0 5");
-    let tie_to = |capacity: u32| format!("profile {capacity} 0 0 3 oz 5 1");
+    let ounces_to = |capacity: u32| format!("profile {capacity} 0 0 3, unit oz 0 5");
+    let tie_to = |capacity: u32| format!("profile {capacity} 0 0 3, unit oz 5 1");
     vec![
         on_a(
             "above C before it is rounded",
@@ -953,7 +957,7 @@ fn typed_limits() -> Vec<Case> {
         on_profile("ounces in steps of five, half of one", OUNCES_IN_FIVES, &["> TA 37.5 oz", "state"], &["TA L", &tared(0)]),
         on_profile(
             "below C before it is rounded",
-            "profile 218000000 0 0 3 g 0 5",
+            "profile 218000000 0 0 3, unit g 0 5",
             &["> TA 217.4 g", "> TA 217.5 g", "> TA 218 g", "state"],
             &["TA A        215 g", "TA L", "TA L", &tared(215_000_000)],
         ),
@@ -988,20 +992,579 @@ fn typed_thresholds() -> Vec<Case> {
     ]
 }
 
+// Document 02, No. 5: units by command.
+
+/// The nine codes, g last.
+const CODES: [&str; 9] = ["1", "3", "5", "7", "8", "9", "10", "11", "0"];
+
+/// A query, a set of each unit, and every line that is neither.
+fn unit_lines() -> Vec<Case> {
+    let wrong: [&str; 34] = [
+        "> M21 ",
+        "> M21 0",
+        "> M21 0 ",
+        "> M21 0 05",
+        "> M21 00 5",
+        "> M21 1 5",
+        "> M21 2 5",
+        "> M21 0  5",
+        "> M21  0 5",
+        "> M21 0 5 ",
+        "> M21 5",
+        "> M21 0 +5",
+        "> M21 0 -5",
+        "> M21 +0 5",
+        "> M21 0 5.",
+        "> M21 0 0x5",
+        "> M21 0 2",
+        "> M21 0 4",
+        "> M21 0 6",
+        "> M21 0 12",
+        "> M21 0 13",
+        "> M21 0 17",
+        "> M21 0 18",
+        "> M21 0 20",
+        "> M21 0 22",
+        "> M21 0 24",
+        "> M21 0 99",
+        "> M21 0 100",
+        "> M21 0 256",
+        "> M21 0 261",
+        "> M21 0 4294967296",
+        "> M21 0 ct",
+        "> M21 0 5 0",
+        "> M21 x",
+    ];
+    let sets = CODES.map(|code| format!("> M21 0 {code}"));
+    let told = CODES.map(|code| format!("M21 A 0 {code}"));
+    let states = ["kg", "mg", "ct", "lb", "oz", "ozt", "GN", "dwt", "g"].map(|unit| format!("{} unit {unit}", tared(0)));
+    let each = |then: &'static str| sets.iter().flat_map(|set| [set.as_str(), then]).collect::<Vec<_>>();
+    let all_told: Vec<&str> = told.iter().flat_map(|line| ["M21 A", line]).collect();
+    let all_shown: Vec<&str> = states.iter().flat_map(|line| ["M21 A", line]).collect();
+    let in_mg = format!("{} unit mg", tared(0));
+    vec![
+        on_a(
+            "M21 asked and set",
+            &["> M21", "> M21 0 5", "> M21", "> M21 0 5", "> M21", "> M21 0 0", "> M21"],
+            &["M21 A 0 0", "M21 A", "M21 A 0 5", "M21 A", "M21 A 0 5", "M21 A", "M21 A 0 0"],
+        ),
+        on_a("M21 with each of the nine", &each("> M21"), &all_told),
+        on_a("the nine in the state", &each("state"), &all_shown),
+        on_a(
+            "M21 with other parameters",
+            &[&["> M21 0 3"], &wrong[..], &["> M21", "state"]].concat(),
+            &[&["M21 A"], &["M21 L"; 34][..], &["M21 A 0 3", &in_mg]].concat(),
+        ),
+        on_a(
+            "M21 and others that are no name",
+            &["> M2", "> M211", "> m21", "> M", "> M20", "> M22", "> M21\t", "> M210 5", "> 21", "> MM21", "> M210", "> M21,"],
+            &["ES"; 12],
+        ),
+        on_a(
+            "a faulty M21",
+            &["> M21 0 5", "f 4D", "b 32 31 20 30 20 30 0D 0A", "b 4D 32 31 20 30 20", "f 30", "b 0D 0A", "> M21"],
+            &["M21 A", "ET", "ET", "M21 A 0 5"],
+        ),
+        on_a("003 M21", &["> M21 0 1", "> M21"], &["M21 A", "M21 A 0 1"]),
+    ]
+}
+
+/// Orders 3 to 7: parameters are no EL, I comes before L, and no sample is needed.
+fn unit_orders() -> Vec<Case> {
+    vec![
+        on_a(
+            "M21 while a command waits",
+            &["> T", "> M21", "> M21 0 5", "> M21 0 05", "> M21 ", "> M21 0 0", "> M21 x", "> M211", "state", "> @", "> M21"],
+            &[
+                "M21 I",
+                "M21 I",
+                "M21 I",
+                "M21 I",
+                "M21 I",
+                "M21 I",
+                "ES",
+                "state zero 0 tare 0 sample none waits T 0 repeats no shows weight line 0 unit g",
+                ON,
+                "M21 A 0 0",
+            ],
+        ),
+        on_a(
+            "M21 before and after a wait",
+            &["> M21 0 5", "> S", "u 1", "> M21 0 0", "s 200000", "> M21 0 8", "> S"],
+            &["M21 A", "M21 I", "S S       1.00 ct", "M21 A", "S S       0.01 oz"],
+        ),
+        on_a(
+            "M21 while SR waits",
+            &["> SR", "> M21 0 5", "u 1", "> M21", "s 20000", "> M21"],
+            &["M21 I", "M21 I", "S S     0.0200 g", "M21 A 0 0"],
+        ),
+        on_a("M21 with no sample", &["> M21", "> M21 0 7", "> M21", "> SI"], &["M21 A 0 0", "M21 A", "M21 A 0 7", "S I"]),
+        on_a("I1 stays", &["> I1"], &["I1 A \"0\" \"2.30\" \"2.20\""]),
+    ]
+}
+
+/// What M21 leaves, and what leaves the unit.
+fn unit_kept() -> Vec<Case> {
+    vec![
+        on_a("@ keeps the unit", &["> M21 0 5", "> @", "> M21", "> TA"], &["M21 A", ON, "M21 A 0 5", "TA A       0.00 ct"]),
+        on_a("power-on sets g", &["> M21 0 5", "on", "> M21", "> TA"], &["M21 A", ON, "M21 A 0 0", "TA A     0.0000 g"]),
+        on_a(
+            "a refused power-on keeps the unit",
+            &["> M21 0 5", "room 15", "on", "room 384", "> M21", "unit kg 7 1", "on", "unit kg 2 1", "> M21"],
+            &["M21 A", "refused 3", "M21 A 0 5", "refused 1", "M21 A 0 5"],
+        ),
+        on_a(
+            "zero, tare, sample and display stay",
+            &["s 70", "> Z", "s 120", "> T", "> D \"A\"", "> M21 0 5", "state", "> M21 0 9", "> M21", "> M21 0 2", "state"],
+            &[
+                "Z A",
+                "T S     0.0001 g",
+                "D A",
+                "M21 A",
+                "state zero 70 tare 50 sample s 120 waits none repeats no shows \"A\" line 0 unit ct",
+                "M21 A",
+                "M21 A 0 9",
+                "M21 L",
+                "state zero 70 tare 50 sample s 120 waits none repeats no shows \"A\" line 0 unit ozt",
+            ],
+        ),
+        on_a(
+            "SIR goes on in the new unit",
+            &[
+                "s 200000",
+                "> SIR",
+                "> M21 0 5",
+                "s 200000",
+                "> M21",
+                "u 200000",
+                "> M21 x",
+                "u 200000",
+                "> M21 0 0",
+                "s 0",
+                "state",
+            ],
+            &[
+                "S S     0.2000 g",
+                "M21 A",
+                "S S       1.00 ct",
+                "M21 A 0 5",
+                "S D       1.00 ct",
+                "M21 L",
+                "S D       1.00 ct",
+                "M21 A",
+                "S S     0.0000 g",
+                "state zero 0 tare 0 sample s 0 waits none repeats SIR shows weight line 0 unit g",
+            ],
+        ),
+        on_a(
+            "what SR owes and where it is out stay",
+            &["s 0", "> SR", "u 5000", "u 220000001", "> M21 0 5", "state", "> M21", "s 220000001", "s 0", "s 59999", "s 60000"],
+            &[
+                "S S     0.0000 g",
+                "S D     0.0050 g",
+                "S +",
+                "M21 A",
+                "state zero 0 tare 0 sample u 220000001 waits none repeats SR 0 - owed out shows weight line 0 unit ct",
+                "M21 A 0 5",
+                "S S       0.00 ct",
+                "S S       0.30 ct",
+            ],
+        ),
+        on_a(
+            "M21 in whole buffers",
+            &["s 200000", &whole("SI\r\nM21 0 5\r\nSI\r\nM21\r\nM21 0 0\r\nTA\r\nM21 0 05\r\n"), "state"],
+            &[
+                "S S     0.2000 g",
+                "M21 A",
+                "S S       1.00 ct",
+                "M21 A 0 5",
+                "M21 A",
+                "TA A     0.0000 g",
+                "M21 L",
+                "state zero 0 tare 0 sample s 200000 waits none repeats no shows weight line 0 unit g",
+            ],
+        ),
+    ]
+}
+
+/// A sample, and the answers to a line in each unit, in the order of `CODES`.
+fn in_each(name: &'static str, sample: &str, line: &str, weights: [&str; 9]) -> Case {
+    let sets = CODES.map(|code| format!("> M21 0 {code}"));
+    let sent: Vec<&str> = [sample].into_iter().chain(sets.iter().flat_map(|set| [set.as_str(), line])).collect();
+    on_a(name, &sent, &weights.into_iter().flat_map(|weight| ["M21 A", weight]).collect::<Vec<_>>())
+}
+
+/// Weights in each of the nine.
+fn unit_weights() -> Vec<Case> {
+    vec![
+        in_each(
+            "14,256,050 in each",
+            "s 14256050",
+            "> S",
+            [
+                "S S       0.01 kg",
+                "S S   14256.05 mg",
+                "S S      71.28 ct",
+                "S S       0.03 lb",
+                "S S       0.50 oz",
+                "S S       0.46 ozt",
+                "S S     220.00 GN",
+                "S S       9.17 dwt",
+                "S S    14.2561 g",
+            ],
+        ),
+        in_each(
+            "-1,000,000 in each, not stable",
+            "u -1000000",
+            "> SI",
+            [
+                "S D       0.00 kg",
+                "S D   -1000.00 mg",
+                "S D      -5.00 ct",
+                "S D       0.00 lb",
+                "S D      -0.04 oz",
+                "S D      -0.03 ozt",
+                "S D     -15.43 GN",
+                "S D      -0.64 dwt",
+                "S D    -1.0000 g",
+            ],
+        ),
+        in_each(
+            "220,000,000 in each",
+            "s 220000000",
+            "> TI",
+            [
+                "TI S       0.22 kg",
+                "TI S  220000.00 mg",
+                "TI S    1100.00 ct",
+                "TI S       0.49 lb",
+                "TI S       7.76 oz",
+                "TI S       7.07 ozt",
+                "TI S    3395.12 GN",
+                "TI S     141.46 dwt",
+                "TI S   220.0000 g",
+            ],
+        ),
+        on_profile(
+            "kilograms at a tie",
+            "unit kg 6 5",
+            &["s 2499", "> SI", "s 2500", "> SI", "s -2499", "> SI", "s -2500", "> SI", "s 220000000", "> SI"],
+            &["S S   0.000000 kg", "S S   0.000005 kg", "S S   0.000000 kg", "S S  -0.000005 kg", "S S   0.220000 kg"],
+        ),
+        on_profile(
+            "pounds",
+            "unit lb 6 1",
+            &["s 220000000", "> SI", "s 226", "> SI", "s 227", "> SI", "s 45359237", "> SI", "s 453592370", "> SI"],
+            &["S S   0.485017 lb", "S S   0.000000 lb", "S S   0.000001 lb", "S S   0.100000 lb", "S +"],
+        ),
+        on_a(
+            "+ and - have no unit",
+            &["> M21 0 1", "s 220000001", "> S", "> T", "> ZI", "u -1000001", "> SI", "> TI"],
+            &["M21 A", "S +", "T +", "ZI +", "S -", "TI -"],
+        ),
+    ]
+}
+
+/// A stored tare stays; a typed one is in the unit in force, and rounded to its step.
+fn unit_typed() -> Vec<Case> {
+    vec![
+        on_a(
+            "the tare stays in micrograms",
+            &["> M21 0 8", "> TA 4 oz", "> M21 0 0", "> TA", "> M21 0 3", "> TA", "> TA 1 g", "> SR 1 g", "state"],
+            &[
+                "M21 A",
+                "TA A       4.00 oz",
+                "M21 A",
+                "TA A   113.3981 g",
+                "M21 A",
+                "TA A  113398.09 mg",
+                "TA L",
+                "S L",
+                "state zero 0 tare 113398093 sample none waits none repeats no shows weight line 0 unit mg",
+            ],
+        ),
+        on_a(
+            "typed in kilograms",
+            &["> M21 0 1", "> TA 0.224 kg", "> TA 0.225 kg", "state", "> TA 0.004 kg", "> TA 0.005 kg", "> M21 0 0", "> TA"],
+            &[
+                "M21 A",
+                "TA A       0.22 kg",
+                "TA L",
+                "state zero 0 tare 220000000 sample none waits none repeats no shows weight line 0 unit kg",
+                "TA A       0.00 kg",
+                "TA A       0.01 kg",
+                "M21 A",
+                "TA A    10.0000 g",
+            ],
+        ),
+        on_a(
+            "the largest numbers in kilograms and pounds",
+            &[
+                "> M21 0 1",
+                "> TA 9999999999 kg",
+                "> TA 999.999999 kg",
+                "> SR 9999999999 kg",
+                "> SR 0.220001 kg",
+                "> M21 0 7",
+                "> TA 9999999999 lb",
+                "> SR 9999999999 lb",
+                "> TA 0.49 lb",
+                "> TA 0.48 lb",
+                "state",
+            ],
+            &[
+                "M21 A",
+                "TA L",
+                "TA L",
+                "S L",
+                "S L",
+                "M21 A",
+                "TA L",
+                "S L",
+                "TA L",
+                "TA A       0.48 lb",
+                "state zero 0 tare 217724338 sample none waits none repeats no shows weight line 0 unit lb",
+            ],
+        ),
+        on_profile(
+            "pounds to the step and to the microgram",
+            "unit lb 5 1",
+            &["> TA 0.00005 lb", "state", "> TA 0.000045 lb", "state", "> TA 0.000044 lb", "state"],
+            &["TA A    0.00005 lb", &tared(22_680), "TA A    0.00005 lb", &tared(22_680), "TA A    0.00004 lb", &tared(18_144)],
+        ),
+        on_a(
+            "only the unit in force",
+            &["> TA 1 mg", "> TA 1 kg", "> M21 0 5", "> TA 1 g", "> TA 1 ct", "> TA 1 CT", "> TA 1", "> M21 0 1", "> TA 0.1 kg"],
+            &["TA L", "TA L", "M21 A", "TA L", "TA A       1.00 ct", "TA L", "TA L", "M21 A", "TA A       0.10 kg"],
+        ),
+        on_a(
+            "a tare is subtracted as it is kept",
+            &["s 10000050", "> T", "> M21 0 5", "s 10200049", "> SI", "> TA", "> TI", "> M21 0 0", "> TA"],
+            &[
+                "T S    10.0001 g",
+                "M21 A",
+                "S S       1.00 ct",
+                "TA A      50.00 ct",
+                "TI S      51.00 ct",
+                "M21 A",
+                "TA A    10.2000 g",
+            ],
+        ),
+    ]
+}
+
+/// SR's 30 steps are those in force at each sample; a set threshold stays.
+fn unit_on_change() -> Vec<Case> {
+    vec![
+        on_a(
+            "30 steps in force",
+            &["s 0", "> SR", "> M21 0 5", "s 3000", "s 59999", "s 60000", "> M21 0 0", "s 67499", "s 67500"],
+            &["S S     0.0000 g", "M21 A", "S S       0.30 ct", "M21 A", "S S     0.0675 g"],
+        ),
+        on_a(
+            "a set threshold stays",
+            &["s 0", "> SR 0.01 g", "> M21 0 5", "state", "s 9999", "s 10000"],
+            &[
+                "S S     0.0000 g",
+                "M21 A",
+                "state zero 0 tare 0 sample s 0 waits none repeats SR 0 10000 shows weight line 0 unit ct",
+                "S S       0.05 ct",
+            ],
+        ),
+        on_a(
+            "a threshold in the unit in force",
+            &["> M21 0 5", "s 0", "> SR 0.05 g", "> SR 0.05 ct", "state", "> M21 0 7", "s 9999", "s 10000"],
+            &[
+                "M21 A",
+                "S L",
+                "S S       0.00 ct",
+                "state zero 0 tare 0 sample s 0 waits none repeats SR 0 10000 shows weight line 0 unit ct",
+                "M21 A",
+                "S S       0.00 lb",
+            ],
+        ),
+        on_a(
+            "a coarser unit and back between two samples",
+            &["s 0", "> SR", "> M21 0 1", "s 3000", "> M21 0 0", "s 3000", "> M21 0 1", "u 299999999", "s 219999999", "state"],
+            &[
+                "S S     0.0000 g",
+                "M21 A",
+                "M21 A",
+                "S S     0.0030 g",
+                "M21 A",
+                "S +",
+                "state zero 0 tare 0 sample s 219999999 waits none repeats SR 3000 - shows weight line 0 unit kg",
+            ],
+        ),
+        on_a(
+            "an S S owed in another unit",
+            &["s 0", "> SR", "u 5000", "> M21 0 1", "u 0", "s 0", "s 5000"],
+            &["S S     0.0000 g", "S D     0.0050 g", "M21 A", "S S       0.00 kg"],
+        ),
+    ]
+}
+
+/// All nine units are tested, in force or not, at every call.
+fn unit_profiles() -> Vec<Case> {
+    vec![
+        on_profile("milligrams fit with a margin", "profile 998999994 1000000 4400000 3", &["> TA"], &["TA A     0.0000 g"]),
+        refused("milligrams do not fit with a margin", "profile 998999995 1000000 4400000 3"),
+        on_profile(
+            "milligrams with one decimal",
+            "profile 998999995 1000000 4400000 3, unit mg 1 1",
+            &["> TA"],
+            &["TA A        0.0 mg"],
+        ),
+        refused("grains below a microgram", "unit GN 5 1"),
+        refused("carats below a microgram", "profile 1000 0 0 3, unit ct 6 2"),
+        on_profile("carats of a microgram", "profile 1000 0 0 3, unit ct 6 5", &["> TA"], &["TA A   0.000000 ct"]),
+        refused("milligrams below a microgram", "profile 1000 0 0 3, unit mg 4 5"),
+        refused("grams that do not fit", "profile 100000000 0 0 3, unit g 6 1"),
+        refused("carats that do not fit", "unit ct 5 1, profile 200000000 0 0 3"),
+        refused("grains that do not fit", "unit GN 5 2, profile 64800000 0 0 3"),
+        refused("pennyweights that do not fit", "unit dwt 6 1, profile 155600000 0 0 3"),
+        refused("seven decimals of kilograms", "unit kg 7 1"),
+        refused("seven decimals of pounds", "unit lb 7 1"),
+        refused("seven decimals of ounces", "unit ozt 7 1"),
+        refused("a step of three in pounds", "unit lb 2 3"),
+        refused("no step in kilograms", "unit kg 2 0"),
+        refused("a step of ten in grains", "unit GN 2 10"),
+        refused("255 decimals of pennyweights", "unit dwt 255 1"),
+        on_profile(
+            "the finest of kilograms, pounds and ounces at the largest capacity",
+            "profile 1000000000 1000000000 0 3, unit kg 6 1, unit lb 6 1, unit oz 6 1, unit ozt 6 1, unit dwt 4 1, unit mg 0 1",
+            &["s 1000000000", "> T", "s -1000000000", "> SI", "> M21 0 7", "> SI", "> M21 0 8", "> SI", "> M21 0 11", "> SI"],
+            &[
+                "T S   1.000000 kg",
+                "S S  -2.000000 kg",
+                "M21 A",
+                "S S  -4.409245 lb",
+                "M21 A",
+                "S S -70.547924 oz",
+                "M21 A",
+                "S S -1286.0299 dwt",
+            ],
+        ),
+        on_a(
+            "a unit that is not in force",
+            &["s 5", "unit kg 7 1", "> SI", "s 6", "w", "w- 53", "on", "unit kg 2 1", "> SI", "> M21 0 1", "unit g 4 3", "> M21"],
+            &[&["refused 1"; 8][..], &["S S     0.0000 g", "M21 A"], &["refused 1"; 5]].concat(),
+        ),
+    ]
+}
+
+/// The answers of M21 are 7, 11 and 12 bytes long, and I0's 258.
+fn unit_rooms() -> Vec<Case> {
+    vec![
+        on_a(
+            "M21 in short rooms",
+            &["room 6", "> M21 0 11", "state", "room 7", "b 0A", "room 11", "> M21", "room 12", "b 0A", "room 6", "> M21 x"],
+            &[
+                "refused 3",
+                "state zero 0 tare 0 sample none waits none repeats no shows weight line 8 cr unit g",
+                "M21 A",
+                "refused 3",
+                "M21 A 0 11",
+                "refused 3",
+            ],
+        ),
+        on_a(
+            "M21 in whole buffers that stop",
+            &["room 17", &whole("M21 0 5\r\nM21\r\n"), "state", "room 11", "w 0A", "room 6", &whole("M21 0 0\r\n"), "state"],
+            &[
+                "M21 A",
+                "took 13",
+                "state zero 0 tare 0 sample none waits none repeats no shows weight line 3 cr unit ct",
+                "M21 A 0 5",
+                "took 8",
+                "state zero 0 tare 0 sample none waits none repeats no shows weight line 7 cr unit ct",
+            ],
+        ),
+        on_a(
+            "I0 in rooms of 256, 257 and 258",
+            &["room 256", "> I0", "room 257", "b 0A", "room 258", "b 0A"],
+            &[&["refused 3", "refused 3"], &LIST[..]].concat(),
+        ),
+    ]
+}
+
+/// `profile` sets four numbers and `unit` two, at once and nothing else.
+fn unit_scripts() -> Vec<Case> {
+    vec![
+        on_a(
+            "a unit between calls",
+            &["> M21 0 5", "s 200000", "> SI", "unit ct 3 5", "> SI", "unit g 2 1", "> SI", "> M21 0 0", "> SI", A, "> SI"],
+            &[
+                "M21 A",
+                "S S       1.00 ct",
+                "S S      1.000 ct",
+                "S S      1.000 ct",
+                "M21 A",
+                "S S       0.20 g",
+                "S S       0.20 g",
+            ],
+        ),
+        on_a(
+            "lines that set nothing",
+            &[
+                "profile 220000000 1000000 4400000 3 g 4 1",
+                "profile 1 1 1",
+                "profile 1 1 1 1 1",
+                "profile",
+                "profile ",
+                "profile 1 1 1 ",
+                "unit",
+                "unit ",
+                "unit g",
+                "unit g 1",
+                "unit g 1 1 1",
+                "unit g 256 1",
+                "unit g 1 256",
+                "unit g -1 1",
+                "unit g 1  1",
+                "unit  g 1 1",
+                "unit G 1 1",
+                "unit t 1 1",
+                "unit gn 1 1",
+                "unit 0 1 1",
+                "unit g 1 1 ",
+                "unit g 00000000001 1",
+                "Unit g 1 1",
+                "> TA",
+                "unit g 0000000003 002",
+                "> TA",
+            ],
+            &[&["?"; 23][..], &["TA A     0.0000 g", "TA A      0.000 g"]].concat(),
+        ),
+    ]
+}
+
 /// A history of lines and stable loads with their answers, and whether the tally accepts it.
 pub struct History {
     pub name: &'static str,
     pub scale: Scale,
-    pub calls: &'static [(&'static str, &'static str)],
+    pub calls: Vec<(&'static str, &'static str)>,
     pub accepted: bool,
 }
 
-/// What the tally makes of typed tares, on profile A with these scales; each rule has one that it rejects.
+impl History {
+    /// Profile A with this scale.
+    pub fn profile(&self) -> Profile {
+        Profile::a().with_scale(self.scale)
+    }
+}
+
+/// What the tally makes of typed tares, on profile A with these scales, of which the unit is set first; each rule has one that it
+/// rejects. Then what it makes of units.
 pub fn histories() -> Vec<History> {
-    let of = |unit, decimals, step| {
-        move |name, calls, accepted| History { name, scale: Scale { unit, decimals, step }, calls, accepted }
+    let of = |unit: Unit, decimals, step| {
+        move |name, calls: &[(&'static str, &'static str)], accepted| {
+            let set: &[_] = if unit == Unit::Ounce { &[("M21 0 8", "M21 A")] } else { &[] };
+            History { name, scale: Scale { unit, decimals, step }, calls: [set, calls].concat(), accepted }
+        }
     };
     let (grams, fives, ounces) = (of(Unit::Gram, 4, 1), of(Unit::Gram, 4, 5), of(Unit::Ounce, 5, 1));
+    let (set, one_gram, one_carat) = (("M21 0 5", "M21 A"), ("SI", "S S     1.0000 g"), ("SI", "S S       1.00 ct"));
     vec![
         grams(
             "the typed 49 micrograms do not count",
@@ -1040,12 +1603,47 @@ pub fn histories() -> Vec<History> {
             ],
             false,
         ),
+        // 1 ct is 200,000 micrograms, and half a step of profile A is 1,000.
+        grams("g before any M21", &[("1000000", ""), one_gram], true),
+        grams("a unit that was not set", &[("200000", ""), one_carat], false),
+        grams("carats", &[set, ("200000", ""), one_carat], true),
+        grams("half a step of a carat", &[set, ("201000", ""), one_carat], true),
+        grams("more than half a step of a carat", &[set, ("201001", ""), one_carat], false),
+        grams("a number in carats that is in grams", &[set, ("1000000", ""), one_carat], false),
+        grams("the text of another unit", &[set, ("200000", ""), ("SI", "S S       1.00 g")], false),
+        grams("a unit asked for is not set", &[("M21", "M21 A 0 5"), ("1000000", ""), one_gram], true),
+        grams("the query's longer line sets nothing", &[("M21 0 5", "M21 A 0 5"), ("1000000", ""), one_gram], true),
+        grams("nor does L", &[("M21 0 5", "M21 L"), ("1000000", ""), one_gram], true),
+        grams("nor does I", &[("M21 0 5", "M21 I"), ("1000000", ""), one_gram], true),
+        grams("nor does a faulty line", &[("!M21 0 5", "M21 A"), ("1000000", ""), one_gram], true),
+        grams("nor does a code with a zero before it", &[("M21 0 05", "M21 A"), ("1000000", ""), one_gram], true),
+        grams("nor does a code of none of the nine", &[("M21 0 4", "M21 A"), ("1000000", ""), one_gram], true),
+        grams("nor does another designation", &[("M21 1 5", "M21 A"), ("1000000", ""), one_gram], true),
+        grams("@ keeps the unit", &[set, ("@", "I4 A \"\""), ("200000", ""), one_carat], true),
+        grams("the last one counts", &[set, ("M21 0 0", "M21 A"), ("1000000", ""), one_gram], true),
+        grams("a tare stays", &[("200000", ""), ("T", "T S     0.2000 g"), set, ("TA", "TA A       1.00 ct")], true),
+        grams("a tare that is converted", &[("200000", ""), ("T", "T S     0.2000 g"), set, ("TA", "TA A       0.20 ct")], false),
+        grams(
+            "typed to the step in force",
+            &[set, ("TA 1.004 ct", "TA A       1.00 ct"), ("201700", ""), ("SI", "S S       0.01 ct")],
+            true,
+        ),
+        grams(
+            "typed as if to another step",
+            &[set, ("TA 1.004 ct", "TA A       1.00 ct"), ("201700", ""), ("SI", "S S       0.00 ct")],
+            false,
+        ),
+        grams(
+            "typed in one unit, read in another",
+            &[set, ("TA 1 ct", "TA A       1.00 ct"), ("M21 0 0", "M21 A"), ("TA", "TA A     0.2000 g")],
+            true,
+        ),
     ]
 }
 
 fn manuals() -> Vec<Case> {
-    let hundredths = "profile 220000000 1000000 4400000 3 g 2 1";
-    let thousandths = "profile 220000000 1000000 4400000 3 g 3 1";
+    let hundredths = "unit g 2 1";
+    let thousandths = "unit g 3 1";
     vec![
         on_profile("003 S", hundredths, &["s 100000000", "> S"], &["S S     100.00 g"]),
         on_profile("003 SI", hundredths, &["u 129070000", "> SI"], &["S D     129.07 g"]),
@@ -1092,7 +1690,7 @@ fn manuals() -> Vec<Case> {
 }
 
 /// What I0 answers.
-const LIST: [&str; 19] = [
+const LIST: [&str; 20] = [
     "I0 B 0 \"I0\"",
     "I0 B 0 \"I1\"",
     "I0 B 0 \"I2\"",
@@ -1111,7 +1709,8 @@ const LIST: [&str; 19] = [
     "I0 B 1 \"T\"",
     "I0 B 1 \"TA\"",
     "I0 B 1 \"TAC\"",
-    "I0 A 1 \"TI\"",
+    "I0 B 1 \"TI\"",
+    "I0 A 2 \"M21\"",
 ];
 
 /// Answer lines with what decode prints for them; the manuals' first.
@@ -1131,7 +1730,12 @@ pub fn captures() -> Vec<(&'static str, &'static str)> {
         ("S S      .0000 g\r\n", "refused 4\r\n"),
         ("S S         1. g\r\n", "refused 4\r\n"),
         ("S S  1.0000000 g\r\n", "refused 4\r\n"),
-        ("S S     1.0000 kg\r\n", "refused 4\r\n"),
+        ("S S     1.0000 kg\r\n", "weight S S 10000 4 kg\r\n"),
+        ("TA A       0.49 lb\r\n", "weight TA A 49 2 lb\r\n"),
+        ("S D  -0.000001 lb\r\n", "weight S D -1 6 lb\r\n"),
+        ("S S     1.0000 KG\r\n", "refused 4\r\n"),
+        ("S S     1.0000 lbs\r\n", "refused 4\r\n"),
+        ("S S     1.0000 t\r\n", "refused 4\r\n"),
         ("T S    -1.0000 g\r\n", "refused 4\r\n"),
         ("TA A    -1.0000 g\r\n", "refused 4\r\n"),
         ("S S  Error 10b\r\n", "refused 4\r\n"),
@@ -1141,6 +1745,47 @@ pub fn captures() -> Vec<(&'static str, &'static str)> {
         ("I0 A 0 \"@\"\r\n", "command A 0 @\r\n"),
         ("I0 A 1 \"TI\"\r\n", "command A 1 TI\r\n"),
         ("I0 B 1 \"I0\"\r\n", "refused 4\r\n"),
+        ("I0 A 2 \"M21\"\r\n", "command A 2 M21\r\n"),
+        ("I0 B 2 \"M21\"\r\n", "command B 2 M21\r\n"),
+        ("I0 A 1 \"M21\"\r\n", "refused 4\r\n"),
+        ("I0 A 0 \"M21\"\r\n", "refused 4\r\n"),
+        ("I0 A 2 \"TI\"\r\n", "refused 4\r\n"),
+        ("M21 A\r\n", "answer M21 A\r\n"),
+        ("M21 I\r\n", "answer M21 I\r\n"),
+        ("M21 L\r\n", "answer M21 L\r\n"),
+        ("M21 A 0 0\r\n", "unit g\r\n"),
+        ("M21 A 0 1\r\n", "unit kg\r\n"),
+        ("M21 A 0 3\r\n", "unit mg\r\n"),
+        ("M21 A 0 5\r\n", "unit ct\r\n"),
+        ("M21 A 0 7\r\n", "unit lb\r\n"),
+        ("M21 A 0 8\r\n", "unit oz\r\n"),
+        ("M21 A 0 9\r\n", "unit ozt\r\n"),
+        ("M21 A 0 10\r\n", "unit GN\r\n"),
+        ("M21 A 0 11\r\n", "unit dwt\r\n"),
+        ("M21 A 0 2\r\n", "refused 4\r\n"),
+        ("M21 A 0 4\r\n", "refused 4\r\n"),
+        ("M21 A 0 6\r\n", "refused 4\r\n"),
+        ("M21 A 0 12\r\n", "refused 4\r\n"),
+        ("M21 A 0 20\r\n", "refused 4\r\n"),
+        ("M21 A 0 07\r\n", "refused 4\r\n"),
+        ("M21 A 0 00\r\n", "refused 4\r\n"),
+        ("M21 A 00 7\r\n", "refused 4\r\n"),
+        ("M21 A 1 3\r\n", "refused 4\r\n"),
+        ("M21 A 2 5\r\n", "refused 4\r\n"),
+        ("M21 B 0 0\r\n", "refused 4\r\n"),
+        ("M21 B\r\n", "refused 4\r\n"),
+        ("M21 A 0\r\n", "refused 4\r\n"),
+        ("M21 A 0 \r\n", "refused 4\r\n"),
+        ("M21 A  0 5\r\n", "refused 4\r\n"),
+        ("M21 A 0 5 \r\n", "refused 4\r\n"),
+        ("M21 A 5\r\n", "refused 4\r\n"),
+        ("M21 A 0 +5\r\n", "refused 4\r\n"),
+        ("M21 L 0 5\r\n", "refused 4\r\n"),
+        ("M21 S\r\n", "refused 4\r\n"),
+        ("M21 +\r\n", "refused 4\r\n"),
+        ("M21\r\n", "refused 4\r\n"),
+        ("M22 A\r\n", "refused 4\r\n"),
+        ("m21 A\r\n", "refused 4\r\n"),
         ("I1 A \"0\" \"2.30\" \"2.20\"\r\n", "answer I1 A \"0\" \"2.30\" \"2.20\"\r\n"),
         ("Z A\r\n", "answer Z A\r\n"),
         ("ZI D\r\n", "answer ZI D\r\n"),

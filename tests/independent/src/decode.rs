@@ -39,6 +39,7 @@ fn describe(reader: Reader, piece: &[u8]) -> Vec<u8> {
             format!("weight {identification} {status} {value} {decimals} {}\r\n", unit.name()).into_bytes()
         }
         Answer::Text { identification, text } => [b"text ", identification.as_bytes(), b" ", text, b"\r\n"].concat(),
+        Answer::Unit { unit } => format!("unit {}\r\n", unit.name()).into_bytes(),
         Answer::Listed { status, level, name } => format!("command {status} {level} {name}\r\n").into_bytes(),
         _ => [b"answer ", piece].concat(),
     };

@@ -8,7 +8,7 @@ macro_rules! faults {
         pub const $list: &[Fault] = &[$(Fault::$name),*];
         /// Faults of the reader of answer lines.
         pub const $readers: &[Fault] = &[$(Fault::$reader),*];
-        /// Faults of the tally, where it follows a typed tare.
+        /// Faults of the tally, where it follows a typed tare and the unit in force.
         pub const $tallies: &[Fault] = &[$(Fault::$tally),*];
     };
 }
@@ -17,7 +17,8 @@ faults! {
     OF_THE_MODULE:
     // weights
     TieTowardsZero, TieToEven, RoundedTowardsZero, RoundedTwice, StepIgnored, MinusZeroPrinted, LeftAligned,
-    OunceCutShort, GrainCutShort, TroyOunceCutShort, PennyweightCutShort,
+    OunceCutShort, GrainCutShort, TroyOunceCutShort, PennyweightCutShort, KilogramTenfold, PoundCutShort, UnitTextOfGrams,
+    PlacesOfGrams,
     // typed numbers
     TypedSevenDecimals, TypedElevenCharacters, TypedBarePoint, TypedUnitIgnored, TypedTwoSpaces, ThresholdTieDownwards,
     ThresholdCut,
@@ -28,6 +29,7 @@ faults! {
     // the profile
     MarginUnchecked, ZeroingRangeUnchecked, PatienceOfThousandOne, PatienceOfZero, CapacityOverLimit, CapacityOfZero,
     StepOfThree, SevenDecimals, StepBelowMicrogram, OnlyCapacityFits, NoNetNeedsToFit, QuoteInText, ControlInText,
+    OnlyInForceFits, OnlyInForceScaled, NewUnitsSevenDecimals, NewUnitsStepOfThree,
     // receiving
     Line63, Line65, FaultPastLimitForgotten, FaultForgotten, FaultyCrTaken, FaultyLfTaken, CrAloneEndsLine, LfAloneEndsLine,
     CrLost, SyntaxBeforeTransmission, ControlTaken, PrefixTaken, LowerCaseTaken, AnythingAfterName, WaitingBeforeSyntax,
@@ -70,6 +72,18 @@ faults! {
     EighthOfPresentNet, ThirtyLastPlaces, ChangeBySize, PrintedChangeCompared, SetThresholdHasLeast, ThresholdFixedAtStart,
     ThresholdKeptFromOlder, ThresholdOfZeroTaken, ThresholdAboveCapacityTaken, LoneSpaceTaken, LastNetUnjudged,
     LastNetJudgedByMargin, ThresholdUnjudged, WaitingThresholdUnjudged,
+    // units by command: what a line has to be
+    UnitByIndex, MicrogramsTakenForCarats, TwentyTakenForPounds, OunceCodesSwapped, NewUnitsRefused, OtherCodeSetsGrams,
+    CodeInOneByte, CodeIn32Bits, CodePadded, CodeSigned, CodeAfterTwoSpaces, CodeBeforeSpace, HostPadded, HostLeftOut,
+    DisplayUnitSet, LoneSpaceQueriesUnit, LoneHostQueriesUnit, UnitTakesNoParameters, UnitAgainRefused, UnitSetWhileWaiting,
+    UnitQueriedWhileWaiting, WrongUnitBeforeWaiting, BusyUnitSet, UnitNeedsSample, WrongUnitSetsGrams,
+    // units by command: what it answers, sets and leaves
+    UnitToldByIndex, UnitToldAsDisplays, GramsTold, CodeToldPadded, UnitToldB, UnitQuerySetsGrams, UnitNotSet, UnitSendsReading,
+    UnitSetInShortRoom, ResetSetsGrams, PowerOnKeepsUnit, UnitClearsTare, UnitClearsZero, UnitConvertsTare, UnitRoundsTare,
+    UnitConvertsThreshold, UnitConvertsLastNet, UnitDropsOwed, UnitEndsSir, UnitEndsSr, SrRebasedByUnit, UnitShowsWeight,
+    UnitListedAtLevelOne, UnitUnlisted, TiListedLast,
+    // units by command: who takes the unit in force
+    TypedInGrams, TypedToGramStep, ThresholdInGrams, ThirtyStepsOfGrams, ThirtyStepsOfStart,
     // refusals
     BytePastAnswerWritten, RefusalWritesBuffer,
     RefusalTwoFirst, RefusalThreeFirst, RoomOffByOne, ShortRoomTakes, ZeroUnjudged, TareUnjudged, CountUnjudged,
@@ -89,8 +103,11 @@ faults! {
     ReadLeadingZero, ReadMinusZero, ReadSevenDecimals, ReadBarePoint, ReadNegativeTare, ReadLeftAligned, ReadShortField,
     ReadOtherUnit, ReadLongText, ReadQuote, ReadControl, ReadSiBusy, ReadResetBusy, ReadOtherLevel, ReadBareZeroing, ReadTrailing,
     ReadLfAlone, ReadUnfinished, ReadWrongSign, ReadAnyVersion, ReadLowerCase, ReadSrBusy, ReadSrWrong, ReadNoWrongS,
+    ReadTonneCode, ReadTwentyAsPounds, ReadPaddedCode, ReadDisplayUnit, ReadUnitB, ReadLoneHost, ReadNoUnitSet, ReadNoUnitBusy,
+    ReadNoUnitWrong, ReadUnitAtLevelOne, ReadNoKilograms, ReadNoPounds, ReadUnitByIndex,
     ;
     OF_THE_TALLY:
     TallyReadsUnrounded, TallyTieDownwards, TallyStepIgnored, TallyRoundsToMicrogram, TallyReadsAnswer, TallyForgetsTyped,
-    TallyKeepsTyped, TallyAllowsMicrogram,
+    TallyKeepsTyped, TallyAllowsMicrogram, TallyReadsFirstUnit, TallyStepOfGrams, TallyTypedToGramStep, TallySetsAtWrong,
+    TallySetsAtBusy, TallySetsAtQuery, TallySetsByFaultyLine, TallyReadsAnyCode, TallyForgetsAtReset, TallySetsOnce,
 }

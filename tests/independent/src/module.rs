@@ -3,13 +3,13 @@
 use crate::faults::Fault;
 use crate::on_change::{kept_net, least_change, OnChange};
 use crate::profile::{is_text, Profile};
-use crate::weight::{as_printed, before_roundings, typed_micrograms, typed_tare, weight_text, Unit};
+use crate::weight::{as_printed, before_roundings, typed_micrograms, typed_tare, weight_text, Scale, Unit, UNITS};
 
 const CR: u8 = 13;
 const LF: u8 = 10;
 
 /// The commands in the order in which I0 lists them, each with its level.
-pub const COMMANDS: [(&str, u8); 19] = [
+pub const COMMANDS: [(&str, u8); 20] = [
     ("I0", 0),
     ("I1", 0),
     ("I2", 0),
@@ -29,6 +29,7 @@ pub const COMMANDS: [(&str, u8); 19] = [
     ("TA", 1),
     ("TAC", 1),
     ("TI", 1),
+    ("M21", 2),
 ];
 
 /// The line being received.
@@ -75,6 +76,8 @@ pub struct State {
     pub repetition: Repetition,
     /// The text that D shows; none when the weight is shown.
     pub shown: Option<Vec<u8>>,
+    /// The unit in force, which M21 sets.
+    pub unit: Unit,
     /// What only planted faults keep and read.
     pub planted: u32,
 }
@@ -111,6 +114,7 @@ enum Parameters {
     Show(Vec<u8>),
     Preset(i64),
     Threshold(i64),
+    Unit(Unit),
     Wrong,
 }
 
@@ -147,6 +151,7 @@ impl Module {
             Some(Fault::PowerOnKeepsWait) => state.waiting = given.waiting,
             Some(Fault::PowerOnKeepsRepetition) => state.repetition = given.repetition,
             Some(Fault::PowerOnKeepsSample) => state.latest = given.latest,
+            Some(Fault::PowerOnKeepsUnit) => state.unit = given.unit,
             _ => {}
         }
         state
@@ -184,6 +189,8 @@ impl Module {
                 state.line.cr = false;
             } else if self.has(Fault::SentThoughRefused) {
                 state.repetition = next.repetition;
+            } else if self.has(Fault::UnitSetInShortRoom) {
+                state.unit = next.unit;
             }
             return self.refuse(3, state, buffer);
         }
@@ -215,7 +222,7 @@ impl Module {
     // Refusals 1 and 2, of every call but power-on.
 
     pub(crate) fn refusal(&self, profile: &Profile, state: &State) -> Option<u8> {
-        let profile_refused = profile.is_refused(self.fault);
+        let profile_refused = profile.is_refused_in(state.unit, self.fault);
         let state_refused = self.state_refused(profile, state);
         match (profile_refused, state_refused) {
             (true, true) if self.has(Fault::RefusalTwoFirst) => Some(2),
@@ -374,7 +381,7 @@ impl Module {
         if self.has(Fault::WaitingBeforeLogical) && busy && name != "@" {
             return self.status(name, "I");
         }
-        let takes_parameters = matches!(name, "D" | "TA" | "SR");
+        let takes_parameters = matches!(name, "D" | "TA" | "SR") || (name == "M21" && !self.has(Fault::UnitTakesNoParameters));
         if rest.is_some() && !takes_parameters && !self.has(Fault::AnythingAfterName) {
             self.logical(state, name);
             return self.error(state, "EL");
@@ -382,9 +389,10 @@ impl Module {
         if name == "@" && !(busy && self.has(Fault::WaitingBeforeReset)) {
             return self.reset(profile, state);
         }
-        let parameters = self.parameters(profile, name, rest);
+        let parameters = self.parameters(profile, state, name, rest);
         let wrong = matches!(parameters, Parameters::Wrong);
-        if busy && !(wrong && self.has(Fault::ParametersBeforeWaiting)) {
+        let first = (wrong && self.has(Fault::ParametersBeforeWaiting)) || self.unit_before_waiting(name, &parameters);
+        if busy && !first {
             self.busy(state, name, parameters);
             return self.status(name, "I");
         }
@@ -392,7 +400,12 @@ impl Module {
             self.wrong(state, name);
             return self.status(name, "L");
         }
-        let needs_sample = matches!(name, "SI" | "SIR" | "TI" | "ZI") || (name == "SR" && self.has(Fault::SrNeedsSample));
+        let needs_sample = match name {
+            "SI" | "SIR" | "TI" | "ZI" => true,
+            "SR" => self.has(Fault::SrNeedsSample),
+            "M21" => self.has(Fault::UnitNeedsSample),
+            _ => false,
+        };
         if state.latest.is_none() && needs_sample {
             if name == "SIR" && self.has(Fault::StartedWithoutSample) {
                 state.repetition = Repetition::Sir;
@@ -400,6 +413,16 @@ impl Module {
             return self.status(name, "I");
         }
         self.obey(profile, state, name, parameters)
+    }
+
+    /// What faults answer of M21 while a command waits.
+    fn unit_before_waiting(&self, name: &str, parameters: &Parameters) -> bool {
+        let first = match parameters {
+            Parameters::Unit(_) => Fault::UnitSetWhileWaiting,
+            Parameters::None => Fault::UnitQueriedWhileWaiting,
+            _ => Fault::WrongUnitBeforeWaiting,
+        };
+        name == "M21" && self.has(first)
     }
 
     /// EL changes nothing; what faults make of the name.
@@ -419,6 +442,7 @@ impl Module {
         match (self.fault, name) {
             (Some(Fault::WrongTextShowsWeight), "D") => state.shown = None,
             (Some(Fault::WrongSrEndsOld), "SR") => state.repetition = Repetition::Off,
+            (Some(Fault::WrongUnitSetsGrams), "M21") => state.unit = Unit::Gram,
             _ => {}
         }
     }
@@ -434,6 +458,11 @@ impl Module {
             (Some(Fault::BusyTextShown), _) => {
                 if let Parameters::Show(text) = parameters {
                     state.shown = Some(text);
+                }
+            }
+            (Some(Fault::BusyUnitSet), _) => {
+                if let Parameters::Unit(unit) = parameters {
+                    state.unit = unit;
                 }
             }
             (Some(Fault::BusyLineCounted), Some(wait)) => wait.unstable += 1,
@@ -456,24 +485,73 @@ impl Module {
         answer(&format!("{} {status}", self.identification(name)))
     }
 
-    fn parameters(&self, profile: &Profile, name: &str, rest: Option<&[u8]>) -> Parameters {
+    fn parameters(&self, profile: &Profile, state: &State, name: &str, rest: Option<&[u8]>) -> Parameters {
         match (name, rest) {
             ("D", rest) => match self.quoted(rest.unwrap_or(b"")) {
                 Some(text) => Parameters::Show(text),
                 None => Parameters::Wrong,
             },
-            ("TA", Some(rest)) => match self.typed_tare(profile, rest) {
+            ("TA", Some(rest)) => match self.typed_tare(profile, state, rest) {
                 Some(0) if self.has(Fault::TypedZeroRefused) => Parameters::Wrong,
                 Some(tare) => Parameters::Preset(tare),
                 None => Parameters::Wrong,
             },
             ("SR", Some(b"")) if self.has(Fault::LoneSpaceTaken) => Parameters::None,
-            ("SR", Some(rest)) => match self.typed_threshold(profile, rest) {
+            ("SR", Some(rest)) => match self.typed_threshold(profile, state, rest) {
                 Some(0) if !self.has(Fault::ThresholdOfZeroTaken) => Parameters::Wrong,
                 Some(threshold) => Parameters::Threshold(threshold),
                 None => Parameters::Wrong,
             },
+            ("M21", Some(rest)) => self.unit(state, rest),
             _ => Parameters::None,
+        }
+    }
+
+    /// What stands after `M21 `: 0 for the host unit, one space and the code of one of the nine units.
+    fn unit(&self, state: &State, rest: &[u8]) -> Parameters {
+        let host = rest.strip_prefix(b"0 ");
+        let code = match self.fault {
+            Some(Fault::LoneSpaceQueriesUnit) if rest == b"" => return Parameters::None,
+            Some(Fault::LoneHostQueriesUnit) if rest == b"0" => return Parameters::None,
+            Some(Fault::DisplayUnitSet) => host.or(rest.strip_prefix(b"1 ")),
+            Some(Fault::HostPadded) => host.or(rest.strip_prefix(b"00 ")),
+            Some(Fault::HostLeftOut) => host.or(Some(rest)),
+            _ => host,
+        };
+        match code.and_then(|code| self.unit_coded(code)) {
+            Some(unit) if self.has(Fault::UnitAgainRefused) && unit == state.unit => Parameters::Wrong,
+            Some(unit) => Parameters::Unit(unit),
+            None => Parameters::Wrong,
+        }
+    }
+
+    fn unit_coded(&self, code: &[u8]) -> Option<Unit> {
+        let number = || std::str::from_utf8(code).ok().filter(|text| !text.starts_with(['0', '+']))?.parse::<u64>().ok();
+        let numbered = |number: u64| Unit::coded(number.to_string().as_bytes());
+        match self.fault {
+            Some(Fault::UnitByIndex) if code != b"0" => UNITS.get(number()? as usize).copied(),
+            Some(Fault::MicrogramsTakenForCarats) if code == b"4" => Some(Unit::Carat),
+            Some(Fault::TwentyTakenForPounds) if code == b"20" => Some(Unit::Pound),
+            Some(Fault::OunceCodesSwapped) if code == b"8" => Some(Unit::TroyOunce),
+            Some(Fault::OunceCodesSwapped) if code == b"9" => Some(Unit::Ounce),
+            Some(Fault::NewUnitsRefused) => Unit::coded(code).filter(|unit| !matches!(unit, Unit::Kilogram | Unit::Pound)),
+            Some(Fault::OtherCodeSetsGrams) => Unit::coded(code).or_else(|| number().map(|_| Unit::Gram)),
+            Some(Fault::CodeInOneByte) if code != b"0" => numbered(number()? % 256),
+            Some(Fault::CodeIn32Bits) if code != b"0" => numbered(number()? % (1 << 32)),
+            Some(Fault::CodePadded) => Unit::coded(code.strip_prefix(b"0").filter(|rest| !rest.is_empty()).unwrap_or(code)),
+            Some(Fault::CodeSigned) => Unit::coded(code.strip_prefix(b"+").unwrap_or(code)),
+            Some(Fault::CodeAfterTwoSpaces) => Unit::coded(code.strip_prefix(b" ").unwrap_or(code)),
+            Some(Fault::CodeBeforeSpace) => Unit::coded(code.strip_suffix(b" ").unwrap_or(code)),
+            _ => Unit::coded(code),
+        }
+    }
+
+    /// What weights are printed and typed in, which is what the profile has for the unit in force.
+    fn scale(&self, profile: &Profile, state: &State) -> Scale {
+        let scale = profile.scale(state.unit);
+        match self.fault {
+            Some(Fault::PlacesOfGrams) => Scale { unit: scale.unit, ..profile.scale(Unit::Gram) },
+            _ => scale,
         }
     }
 
@@ -483,11 +561,17 @@ impl Module {
     }
 
     /// What a TA line sets: the microgram result at most C, save for faults.
-    fn typed_tare(&self, profile: &Profile, rest: &[u8]) -> Option<i64> {
-        let number = self.typed(profile, rest)?;
-        let tare = typed_tare(number, profile.scale, self.fault)?;
+    fn typed_tare(&self, profile: &Profile, state: &State, rest: &[u8]) -> Option<i64> {
+        let grams = profile.scale(Unit::Gram);
+        let scale = match self.fault {
+            Some(Fault::TypedInGrams) => grams,
+            Some(Fault::TypedToGramStep) => Scale { unit: state.unit, ..grams },
+            _ => self.scale(profile, state),
+        };
+        let number = self.typed(scale, rest)?;
+        let tare = typed_tare(number, scale, self.fault)?;
         let capacity = i128::from(profile.capacity);
-        let before = || before_roundings(number, profile.scale);
+        let before = || before_roundings(number, scale);
         match self.fault {
             Some(Fault::TypedLimitBeforeBoth) if before()?.0 > capacity => None,
             Some(Fault::TypedLimitBeforeSecond) if before()?.1 > capacity => None,
@@ -498,22 +582,24 @@ impl Module {
     }
 
     /// What an SR line sets, at most C, save for faults.
-    fn typed_threshold(&self, profile: &Profile, rest: &[u8]) -> Option<i64> {
-        let number = self.typed(profile, rest)?;
+    fn typed_threshold(&self, profile: &Profile, state: &State, rest: &[u8]) -> Option<i64> {
+        let unit = if self.has(Fault::ThresholdInGrams) { Unit::Gram } else { state.unit };
+        let scale = profile.scale(unit);
+        let number = self.typed(scale, rest)?;
         let read = if self.has(Fault::ThresholdRoundedToStep) { typed_tare } else { typed_micrograms };
-        let threshold = read(number, profile.scale, self.fault)?;
+        let threshold = read(number, scale, self.fault)?;
         let most = i128::from(profile.capacity) + i128::from(self.has(Fault::ThresholdAboveCapacityTaken));
         (threshold <= most).then_some(threshold as i64)
     }
 
-    /// The number of a typed one, one space and the profile's unit.
-    fn typed<'a>(&self, profile: &Profile, rest: &'a [u8]) -> Option<&'a [u8]> {
+    /// The number of a typed one, one space and the unit in force.
+    fn typed<'a>(&self, scale: Scale, rest: &'a [u8]) -> Option<&'a [u8]> {
         let at = rest.iter().position(|&byte| byte == b' ')?;
         let (number, mut unit) = (&rest[..at], &rest[at + 1..]);
         if self.has(Fault::TypedTwoSpaces) {
             unit = unit.strip_prefix(b" ").unwrap_or(unit);
         }
-        let good = Unit::named(unit) == Some(profile.scale.unit) || self.has(Fault::TypedUnitIgnored);
+        let good = Unit::named(unit) == Some(scale.unit) || self.has(Fault::TypedUnitIgnored);
         good.then_some(number)
     }
 
@@ -533,6 +619,7 @@ impl Module {
             "TI" => self.tare(profile, state, name),
             "ZI" => self.zero(profile, state, name),
             "TA" => self.preset_or_query(profile, state, parameters),
+            "M21" => self.set_or_query_unit(profile, state, parameters),
             "TAC" => {
                 state.tare = 0;
                 self.rebase(profile, state, Fault::SrRebasedByTypedTare);
@@ -554,6 +641,7 @@ impl Module {
             Some(Fault::TaringShowsWeight) => matches!(name, "T" | "TI"),
             Some(Fault::TypedTareShowsWeight) => matches!(name, "TA" | "TAC"),
             Some(Fault::ListShowsWeight) => name.starts_with('I'),
+            Some(Fault::UnitShowsWeight) => name == "M21",
             _ => false,
         }
     }
@@ -667,7 +755,7 @@ impl Module {
         match self.reading(profile, state) {
             None => vec![],
             Some(Reading { out: Some(sign), .. }) => answer(&format!("S {sign}")),
-            Some(Reading { net, stable, .. }) => self.weight_line(profile, "S", mark(stable), net),
+            Some(Reading { net, stable, .. }) => self.weight_line(profile, state, "S", mark(stable), net),
         }
     }
 
@@ -675,6 +763,9 @@ impl Module {
     fn start_on_change(&self, profile: &Profile, state: &mut State, threshold: Option<i64>) -> Vec<u8> {
         let Some(reading) = self.reading(profile, state) else { return vec![] };
         let kept_off = self.has(Fault::SirKeptBySr) && state.repetition == Repetition::Sir;
+        if self.has(Fault::ThirtyStepsOfStart) {
+            state.planted = state.unit.index() as u32;
+        }
         if reading.out.is_none() && !kept_off {
             state.repetition = Repetition::Sr(self.started_on_change(profile, state, reading.net, threshold));
         } else if self.has(Fault::SrStartedByOverload) {
@@ -685,8 +776,9 @@ impl Module {
 
     /// SR's memory after its first answer.
     fn started_on_change(&self, profile: &Profile, state: &State, net: i128, threshold: Option<i64>) -> OnChange {
-        let fixed = || Some(least_change(net, None, profile.scale).min(profile.capacity.into()) as i64);
-        let memory = OnChange { last: kept_net(net, profile.scale, self.fault), threshold, owed: false, out: false };
+        let scale = self.scale(profile, state);
+        let fixed = || Some(least_change(net, None, scale).min(profile.capacity.into()) as i64);
+        let memory = OnChange { last: kept_net(net, scale, self.fault), threshold, owed: false, out: false };
         match self.fault {
             Some(Fault::NewSrKeepsOwed) => OnChange { owed: state.planted == 1, ..memory },
             Some(Fault::FirstNetForgotten) => OnChange { last: 0, ..memory },
@@ -731,14 +823,14 @@ impl Module {
         }
         let before = i128::from(state.tare);
         let kept = match self.fault {
-            Some(Fault::PrintedTareSubtracted) => as_printed(gross, profile.scale).min(capacity),
+            Some(Fault::PrintedTareSubtracted) => as_printed(gross, self.scale(profile, state)).min(capacity),
             Some(Fault::TareByNet) => (gross - before).max(0),
             _ => gross,
         };
         state.tare = kept.clamp(0, capacity) as i64;
         self.rebase(profile, state, Fault::SrRebasedByTaring);
         let told = if self.has(Fault::TareAnswersNet) { gross - before } else { gross };
-        self.weight_line(profile, name, mark(sample.stable), told)
+        self.weight_line(profile, state, name, mark(sample.stable), told)
     }
 
     /// Zeroing and taring leave SR's last net; faults put the present one in its place.
@@ -754,11 +846,68 @@ impl Module {
             state.tare = tare;
             self.rebase(profile, state, Fault::SrRebasedByTypedTare);
         }
-        let text = self.weight_line(profile, "TA", "A", state.tare.into());
+        let text = self.weight_line(profile, state, "TA", "A", state.tare.into());
         if matches!(parameters, Parameters::None) && self.has(Fault::QueryClearsTare) {
             state.tare = 0;
         }
         text
+    }
+
+    /// M21 sends its answer alone, and moves nothing but the unit.
+    fn set_or_query_unit(&self, profile: &Profile, state: &mut State, parameters: Parameters) -> Vec<u8> {
+        let Parameters::Unit(unit) = parameters else { return self.unit_line(state) };
+        self.moved_with_unit(profile, state, unit);
+        let former = std::mem::replace(&mut state.unit, unit);
+        self.rebase(profile, state, Fault::SrRebasedByUnit);
+        let mut told = self.status("M21", "A");
+        if self.has(Fault::UnitSendsReading) && state.repetition == Repetition::Sir {
+            told.extend(self.reading_line(profile, state));
+        }
+        if self.has(Fault::UnitNotSet) {
+            state.unit = former;
+        }
+        told
+    }
+
+    fn unit_line(&self, state: &mut State) -> Vec<u8> {
+        let told = match self.fault {
+            Some(Fault::UnitToldByIndex) => format!("M21 A 0 {}", state.unit.index()),
+            Some(Fault::UnitToldAsDisplays) => format!("M21 A 1 {}", state.unit.code()),
+            Some(Fault::GramsTold) => "M21 A 0 0".to_string(),
+            Some(Fault::CodeToldPadded) => format!("M21 A 0 {:0>2}", state.unit.code()),
+            Some(Fault::UnitToldB) => format!("M21 B 0 {}", state.unit.code()),
+            _ => format!("M21 A 0 {}", state.unit.code()),
+        };
+        if self.has(Fault::UnitQuerySetsGrams) {
+            state.unit = Unit::Gram;
+        }
+        answer(&told)
+    }
+
+    /// Tare, zero and a set threshold are micrograms, whatever the unit; what faults make of them and of what repeats.
+    fn moved_with_unit(&self, profile: &Profile, state: &mut State, unit: Unit) {
+        let (from, to) = (state.unit.nanograms(), unit.nanograms());
+        let (capacity, margin) = (i128::from(profile.capacity), i128::from(profile.margin));
+        let converted = |weight: i64, low: i128, high: i128| (i128::from(weight) * to / from).clamp(low, high) as i64;
+        match (self.fault, &mut state.repetition) {
+            (Some(Fault::UnitClearsTare), _) => state.tare = 0,
+            (Some(Fault::UnitClearsZero), _) => state.zero = 0,
+            (Some(Fault::UnitConvertsTare), _) => state.tare = converted(state.tare, 0, capacity),
+            (Some(Fault::UnitRoundsTare), _) => {
+                state.tare = as_printed(state.tare.into(), profile.scale(unit)).min(capacity) as i64
+            }
+            (Some(Fault::UnitConvertsThreshold), Repetition::Sr(memory)) => {
+                memory.threshold = memory.threshold.map(|set| converted(set, 1, capacity))
+            }
+            (Some(Fault::UnitConvertsLastNet), Repetition::Sr(memory)) => {
+                memory.last = converted(memory.last, -(margin + capacity), capacity)
+            }
+            (Some(Fault::UnitDropsOwed), Repetition::Sr(memory)) => memory.owed = false,
+            (Some(Fault::UnitEndsSir), Repetition::Sir) | (Some(Fault::UnitEndsSr), Repetition::Sr(_)) => {
+                state.repetition = Repetition::Off
+            }
+            _ => {}
+        }
     }
 
     /// Waiting dropped, repetition ended, tare 0, weight shown; zero and latest sample are kept.
@@ -787,6 +936,9 @@ impl Module {
         }
         if self.has(Fault::ResetClearsZero) {
             state.zero = 0;
+        }
+        if self.has(Fault::ResetSetsGrams) {
+            state.unit = Unit::Gram;
         }
         if self.has(Fault::ResetUnanswered) {
             return vec![];
@@ -835,12 +987,17 @@ impl Module {
     /// A running SR takes the latest sample; true if it sends it.
     fn changed(&self, profile: &Profile, state: &mut State) -> bool {
         let Some(reading) = self.reading(profile, state) else { return false };
+        let scale = match self.fault {
+            Some(Fault::ThirtyStepsOfGrams) => profile.scale(Unit::Gram),
+            Some(Fault::ThirtyStepsOfStart) => profile.scale(UNITS[state.planted as usize]),
+            _ => self.scale(profile, state),
+        };
         let Repetition::Sr(memory) = &mut state.repetition else { return false };
         if self.has(Fault::OtherSideSentToo) {
             let side = reading.out.map_or(0, u32::from);
             memory.out &= side == std::mem::replace(&mut state.planted, side);
         }
-        memory.sends(reading, profile.scale, self.fault)
+        memory.sends(reading, scale, self.fault)
     }
 
     /// The sample that came, save for faults.
@@ -903,8 +1060,9 @@ impl Module {
 
     // Answers.
 
-    fn weight_line(&self, profile: &Profile, identification: &str, status: &str, net: i128) -> Vec<u8> {
-        answer(&format!("{identification} {status} {}", weight_text(net, profile.scale, self.fault)))
+    fn weight_line(&self, profile: &Profile, state: &State, identification: &str, status: &str, net: i128) -> Vec<u8> {
+        let text = weight_text(net, self.scale(profile, state), self.fault);
+        answer(&format!("{identification} {status} {text}"))
     }
 
     /// I2 to I5: name, A, quoted text.
@@ -922,9 +1080,18 @@ impl Module {
 
     fn list(&self) -> Vec<u8> {
         let last = if self.has(Fault::LastListedB) { "B" } else { "A" };
-        let status = |name| if name == "TI" { last } else { "B" };
-        let listed = COMMANDS.iter().filter(|(name, _)| *name != "SR" || !self.has(Fault::SrUnlisted));
-        listed.flat_map(|(name, level)| answer(&format!("I0 {} {level} \"{name}\"", status(*name)))).collect()
+        let left_out = |name: &str| match name {
+            "SR" => self.has(Fault::SrUnlisted),
+            "M21" => self.has(Fault::UnitUnlisted),
+            _ => false,
+        };
+        let listed: Vec<(&str, u8)> = COMMANDS.into_iter().filter(|(name, _)| !left_out(name)).collect();
+        let line = |at: usize, (name, level): (&str, u8)| {
+            let is_last = at + 1 == listed.len() || (name == "TI" && self.has(Fault::TiListedLast));
+            let level = if name == "M21" && self.has(Fault::UnitListedAtLevelOne) { 1 } else { level };
+            answer(&format!("I0 {} {level} \"{name}\"", if is_last { last } else { "B" }))
+        };
+        listed.iter().enumerate().flat_map(|(at, one)| line(at, *one)).collect()
     }
 }
 

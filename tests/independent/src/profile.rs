@@ -1,7 +1,7 @@
 //! The profile, and when it is refused.
 
 use crate::faults::Fault;
-use crate::weight::{printed, ten_to, Scale, Unit};
+use crate::weight::{fits, ten_to, Places, Scale, Unit, UNITS};
 
 #[derive(Clone, Debug, PartialEq, Eq)]
 pub struct Profile {
@@ -9,7 +9,8 @@ pub struct Profile {
     pub margin: u32,
     pub zeroing: u32,
     pub patience: u32,
-    pub scale: Scale,
+    /// Of every unit, in their order.
+    pub places: [Places; 9],
     /// The texts of I2, I3, I4 and I5.
     pub texts: [Vec<u8>; 4],
 }
@@ -22,13 +23,38 @@ impl Profile {
             margin: 1_000_000,
             zeroing: 4_400_000,
             patience: 3,
-            scale: Scale { unit: Unit::Gram, decimals: 4, step: 1 },
+            places: UNITS.map(|unit| Places { decimals: if unit == Unit::Gram { 4 } else { 2 }, step: 1 }),
             texts: [vec![], vec![], b"VA-0001".to_vec(), vec![]],
         }
     }
 
+    /// What weights are printed in while this unit is in force.
+    pub fn scale(&self, unit: Unit) -> Scale {
+        let Places { decimals, step } = self.places[unit.index()];
+        Scale { unit, decimals, step }
+    }
+
+    /// The same profile with another number of decimals and another step in one unit.
+    pub fn with_scale(self, Scale { unit, decimals, step }: Scale) -> Profile {
+        let mut other = self;
+        other.places[unit.index()] = Places { decimals, step };
+        other
+    }
+
     pub fn is_refused(&self, fault: Option<Fault>) -> bool {
-        !(self.ranges_hold(fault) && self.scale_holds(fault) && self.every_net_fits(fault) && self.texts_hold(fault))
+        self.is_refused_in(Unit::Gram, fault)
+    }
+
+    /// All nine units are tested, whichever is in force; only faults look at that.
+    pub fn is_refused_in(&self, in_force: Unit, fault: Option<Fault>) -> bool {
+        let judged = |unit: Unit, unjudged: Fault| unit == in_force || fault != Some(unjudged);
+        let scale_holds = |unit: Unit| !judged(unit, Fault::OnlyInForceScaled) || scale_holds(self.scale(unit), fault);
+        let fits = |unit: Unit| {
+            let tested = judged(unit, Fault::OnlyInForceFits) && judged(unit, Fault::OnlyInForceScaled);
+            !tested || self.every_net_fits(self.scale(unit), fault)
+        };
+        let units = || UNITS.into_iter();
+        !(self.ranges_hold(fault) && units().all(scale_holds) && units().all(fits) && self.texts_hold(fault))
     }
 
     fn ranges_hold(&self, fault: Option<Fault>) -> bool {
@@ -43,20 +69,11 @@ impl Profile {
             && (shortest..=longest).contains(&self.patience)
     }
 
-    fn scale_holds(&self, fault: Option<Fault>) -> bool {
-        let Scale { unit, decimals, step } = self.scale;
-        let most = if fault == Some(Fault::SevenDecimals) { 7 } else { 6 };
-        let three = step == 3 && fault == Some(Fault::StepOfThree);
-        decimals <= most
-            && (matches!(step, 1 | 2 | 5) || three)
-            && (step_is_a_microgram(unit, decimals, step) || fault == Some(Fault::StepBelowMicrogram))
-    }
-
     /// The longest texts stand at the ends of the range.
-    fn every_net_fits(&self, fault: Option<Fault>) -> bool {
+    fn every_net_fits(&self, scale: Scale, fault: Option<Fault>) -> bool {
         let capacity = i128::from(self.capacity);
         let lowest = -(i128::from(self.margin) + capacity);
-        let fits = |net| printed(net, self.scale, fault).len() <= 10;
+        let fits = |net| fits(net, scale, fault);
         match fault {
             Some(Fault::NoNetNeedsToFit) => true,
             Some(Fault::OnlyCapacityFits) => fits(capacity),
@@ -71,6 +88,16 @@ impl Profile {
 
 /// The most characters of the texts for I2, I3, I4 and I5.
 pub const TEXT_ROOMS: [usize; 4] = [40, 40, 20, 20];
+
+fn scale_holds(Scale { unit, decimals, step }: Scale, fault: Option<Fault>) -> bool {
+    let has = |one| fault == Some(one);
+    let is_new = matches!(unit, Unit::Kilogram | Unit::Pound);
+    let most = if has(Fault::SevenDecimals) || (is_new && has(Fault::NewUnitsSevenDecimals)) { 7 } else { 6 };
+    let three = step == 3 && (has(Fault::StepOfThree) || (is_new && has(Fault::NewUnitsStepOfThree)));
+    decimals <= most
+        && (matches!(step, 1 | 2 | 5) || three)
+        && (step_is_a_microgram(unit, decimals, step) || has(Fault::StepBelowMicrogram))
+}
 
 fn step_is_a_microgram(unit: Unit, decimals: u8, step: u8) -> bool {
     i128::from(step) * unit.nanograms() >= 1000 * ten_to(decimals.into())

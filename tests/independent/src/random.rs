@@ -7,7 +7,7 @@ use crate::module::{Module, State, COMMANDS};
 use crate::on_change::least_change;
 use crate::profile::{Profile, TEXT_ROOMS};
 use crate::replay::{Called, Replay};
-use crate::weight::{number_text, ten_to, Scale, Unit, UNITS};
+use crate::weight::{number_text, ten_to, Places, Scale, Unit, UNITS};
 
 /// A small generator of numbers (splitmix64).
 pub struct Rng(u64);
@@ -69,8 +69,25 @@ fn some_tie(rng: &mut Rng, a: i128, b: i128, low: i128, high: i128) -> Option<i1
 
 // Profiles.
 
-fn any_scale(rng: &mut Rng) -> Scale {
-    Scale { unit: rng.pick(&UNITS), decimals: rng.below(7) as u8, step: rng.pick(&[1, 1, 2, 5]) }
+fn any_places(rng: &mut Rng) -> Places {
+    Places { decimals: rng.below(7) as u8, step: rng.pick(&[1, 1, 2, 5]) }
+}
+
+/// What no capacity and no margin refuses.
+const ROOMY: Places = Places { decimals: 0, step: 1 };
+
+/// Each unit's decimals and step, of which those that these limits refuse are drawn again.
+fn good_places(rng: &mut Rng, mut profile: Profile) -> Profile {
+    profile.places = [ROOMY; 9];
+    for unit in UNITS {
+        loop {
+            profile.places[unit.index()] = any_places(rng);
+            if !profile.is_refused(None) {
+                break;
+            }
+        }
+    }
+    profile
 }
 
 fn any_capacity(rng: &mut Rng) -> u32 {
@@ -118,24 +135,30 @@ fn texts(rng: &mut Rng) -> [Vec<u8>; 4] {
     TEXT_ROOMS.map(|room| text_of(rng, room))
 }
 
-fn good_profile(rng: &mut Rng) -> Profile {
+/// A good profile, with the unit that its limits were drawn for.
+fn good_profile(rng: &mut Rng) -> (Profile, Unit) {
+    let unit = rng.pick(&UNITS);
     loop {
         let capacity = any_capacity(rng);
         let (margin, zeroing) = (part_of(rng, capacity), part_of(rng, capacity));
-        let profile =
-            Profile { capacity, margin, zeroing, patience: any_patience(rng), scale: any_scale(rng), texts: texts(rng) };
+        let mut places = [ROOMY; 9];
+        places[unit.index()] = any_places(rng);
+        let profile = Profile { capacity, margin, zeroing, patience: any_patience(rng), places, texts: texts(rng) };
         let profile = match rng.below(100) {
             0..=19 => widest(rng, profile),
-            20..=44 => at_a_step(rng, profile),
+            20..=44 => at_a_step(rng, profile, unit),
             _ => profile,
         };
         if !profile.is_refused(None) {
-            return profile;
+            let places = profile.places[unit.index()];
+            let mut good = good_places(rng, profile);
+            good.places[unit.index()] = places;
+            return (good, unit);
         }
     }
 }
 
-/// The largest capacity or margin that still fits its ten characters.
+/// The largest capacity or margin that still fits ten characters.
 fn widest(rng: &mut Rng, mut profile: Profile) -> Profile {
     if rng.chance(50) {
         profile.margin = 0;
@@ -149,8 +172,8 @@ fn widest(rng: &mut Rng, mut profile: Profile) -> Profile {
 }
 
 /// A capacity at the micrograms of some display steps or beside them, so that a typed tare meets it.
-fn at_a_step(rng: &mut Rng, profile: Profile) -> Profile {
-    let Scale { unit, decimals, step } = profile.scale;
+fn at_a_step(rng: &mut Rng, profile: Profile, unit: Unit) -> Profile {
+    let Scale { decimals, step, .. } = profile.scale(unit);
     let (above, below) = (i128::from(step) * unit.nanograms(), 1000 * ten_to(decimals.into()));
     let most = i128::from(profile.capacity) * below / above;
     let any = rng.between(0, most);
@@ -173,49 +196,74 @@ pub fn largest(limit: u32, passes: impl Fn(u32) -> bool) -> u32 {
     low
 }
 
-/// A profile with one line broken, as a rule by the least that breaks it.
+/// A profile with one line broken, as a rule by the least that breaks it; one of the nine units' lines are broken in it alone.
 fn bad_profile(rng: &mut Rng, good: &Profile) -> Profile {
-    let roomy = Scale { unit: Unit::Gram, decimals: 2, step: 1 };
-    let mut bad = Profile { scale: if rng.chance(60) { roomy } else { good.scale }, ..good.clone() };
-    match rng.below(14) {
+    let mut bad = good.clone();
+    if rng.chance(60) {
+        bad.places = [ROOMY; 9];
+    }
+    let unit = rng.pick(&UNITS);
+    let at = unit.index();
+    match rng.below(16) {
         0 => (bad.capacity, bad.margin, bad.zeroing) = (0, 0, 0),
         1 => bad.capacity = rng.pick(&[1_000_000_001, u32::MAX]),
         2 => bad.margin = rng.pick(&[bad.capacity + 1, u32::MAX]),
         3 => bad.zeroing = rng.pick(&[bad.capacity + 1, u32::MAX]),
         4 => bad.patience = 0,
         5 => bad.patience = rng.pick(&[1_001, 1_001, u32::MAX]),
-        6 => bad.scale.step = rng.pick(&[3, 3, 0, 4, 6, 10, 255]),
-        7 => bad.scale.decimals = rng.pick(&[7, 8, 255]),
-        8 => {
-            (bad.capacity, bad.margin, bad.zeroing, bad.scale) = (1_000, 9, 9, Scale { unit: Unit::Ounce, decimals: 7, step: 1 })
-        }
+        6 | 7 => bad.places[at].step = rng.pick(&[3, 3, 0, 4, 6, 10, 255]),
+        8 => bad.places[at].decimals = rng.pick(&[7, 7, 8, 255]),
         9 => {
             (bad.capacity, bad.margin, bad.zeroing) = (1_000, 9, 9);
-            let (unit, decimals) = rng.pick(&[(Unit::Grain, 5), (Unit::Milligram, 4), (Unit::Carat, 6), (Unit::Milligram, 6)]);
-            bad.scale = Scale { unit, decimals, step: 1 };
+            bad.places[at] = Places { decimals: 7, step: rng.pick(&[1, 5]) };
         }
         10 => {
-            bad.scale = good.scale;
-            bad.margin = largest(bad.capacity, |margin| !Profile { margin, ..bad.clone() }.is_refused(None)) + 1;
+            (bad.capacity, bad.margin, bad.zeroing) = (1_000, 9, 9);
+            let below =
+                [(Unit::Grain, 5, 1), (Unit::Grain, 6, 5), (Unit::Milligram, 4, 5), (Unit::Carat, 6, 2), (Unit::Carat, 6, 1)];
+            let (unit, decimals, step) = rng.pick(&below);
+            bad.places[unit.index()] = Places { decimals, step };
         }
-        11 => {
-            bad = Profile { margin: 0, zeroing: 0, scale: good.scale, ..bad };
-            bad.capacity = largest(1_000_000_000, |capacity| !Profile { capacity, ..bad.clone() }.is_refused(None)) + 1;
-        }
+        11..=13 => bad = unfit(rng, good),
         at => {
             let text = &mut bad.texts[rng.below(4)];
             text.pop();
-            let byte = if at == 12 { b'"' } else { rng.pick(&[31, 31, 0, 9, 13]) };
+            let byte = if at == 14 { b'"' } else { rng.pick(&[31, 31, 0, 9, 13]) };
             text.insert(rng.below(text.len() + 1), byte);
         }
     }
     bad
 }
 
-pub fn profile_line(profile: &Profile) -> Vec<u8> {
-    let Profile { capacity, margin, zeroing, patience, scale, .. } = profile;
-    let Scale { unit, decimals, step } = scale;
-    format!("profile {capacity} {margin} {zeroing} {patience} {} {decimals} {step}", unit.name()).into_bytes()
+/// One unit that no longer fits its ten characters, or any of them: by a margin or a capacity that is one more than fits. Ounces,
+/// kilograms and pounds always fit.
+fn unfit(rng: &mut Rng, good: &Profile) -> Profile {
+    let mut bad = good.clone();
+    if rng.chance(70) {
+        let unit = rng.pick(&[Unit::Gram, Unit::Milligram, Unit::Carat, Unit::Grain, Unit::Pennyweight]);
+        bad.places = [ROOMY; 9];
+        let fine = rng.pick(&[(2, 1), (3, 1), (4, 1), (5, 5), (6, 5)]);
+        let (decimals, step) = if unit == Unit::Milligram { rng.pick(&[(2, 1), (3, 1), (3, 2)]) } else { fine };
+        bad.places[unit.index()] = Places { decimals, step };
+    }
+    if rng.chance(50) {
+        bad.margin = largest(bad.capacity, |margin| !Profile { margin, ..bad.clone() }.is_refused(None)) + 1;
+    } else {
+        (bad.margin, bad.zeroing) = (0, 0);
+        bad.capacity = largest(1_000_000_000, |capacity| !Profile { capacity, ..bad.clone() }.is_refused(None)) + 1;
+    }
+    bad
+}
+
+/// A profile's lines but for its texts.
+pub fn profile_lines(profile: &Profile) -> Vec<Vec<u8>> {
+    let Profile { capacity, margin, zeroing, patience, .. } = profile;
+    let numbers = format!("profile {capacity} {margin} {zeroing} {patience}");
+    [numbers].into_iter().chain(UNITS.map(|unit| unit_line(profile.scale(unit)))).map(String::into_bytes).collect()
+}
+
+fn unit_line(Scale { unit, decimals, step }: Scale) -> String {
+    format!("unit {} {decimals} {step}", unit.name())
 }
 
 fn whole_part(number: &str) -> &str {
@@ -308,8 +356,11 @@ impl Maker<'_> {
     }
 
     fn start(&mut self) {
-        let good = good_profile(self.rng);
-        self.say("room 256");
+        let (good, unit) = good_profile(self.rng);
+        self.say("room 384");
+        for line in profile_lines(&good) {
+            self.add(line);
+        }
         if self.rng.chance(20) {
             let bad = bad_profile(self.rng, &good);
             self.set_profile(&bad, true);
@@ -321,13 +372,26 @@ impl Maker<'_> {
         }
         self.set_profile(&good, true);
         self.say("on");
+        self.first_unit(unit);
         if self.rng.chance(80) {
             self.sample();
         }
     }
 
+    /// As a rule the unit that the profile was drawn for; g stays in some histories.
+    fn first_unit(&mut self, unit: Unit) {
+        if self.rng.chance(80) {
+            self.send(format!("M21 0 {}", unit.code()).into_bytes());
+        }
+    }
+
+    /// The lines of the profile that the script does not stand at already; those of its texts where they are asked for.
     fn set_profile(&mut self, profile: &Profile, with_texts: bool) {
-        self.add(profile_line(profile));
+        for (line, former) in profile_lines(profile).into_iter().zip(profile_lines(&self.replay.profile)) {
+            if line != former {
+                self.add(line);
+            }
+        }
         if with_texts {
             for (at, text) in profile.texts.iter().enumerate() {
                 self.add(text_line(at, text));
@@ -336,7 +400,9 @@ impl Maker<'_> {
     }
 
     fn step(&mut self) {
-        match self.rng.below(100) {
+        match self.rng.below(106) {
+            100..=104 => self.change_units(),
+            105 => self.unit_alone(),
             0..=23 => self.sample(),
             24..=27 => self.buffers(),
             28 => self.odd_buffer(),
@@ -359,6 +425,11 @@ impl Maker<'_> {
 
     fn state(&self) -> State {
         self.replay.state.clone().unwrap_or_default()
+    }
+
+    /// What weights are printed in now.
+    fn scale(&self) -> Scale {
+        self.replay.profile.scale(self.state().unit)
     }
 
     // Samples.
@@ -417,14 +488,15 @@ impl Maker<'_> {
     /// A load by which net differs from the last one that SR sent by about its threshold, or not at all; none if it does not run.
     fn changed_load(&mut self, profile: &Profile, state: &State) -> Option<i128> {
         let memory = state.on_change().filter(|_| !profile.is_refused(None))?;
-        let least = least_change(memory.last.into(), memory.threshold, profile.scale);
+        let unit = if self.rng.chance(15) { self.rng.pick(&UNITS) } else { state.unit };
+        let least = least_change(memory.last.into(), memory.threshold, profile.scale(unit));
         let by = self.rng.pick(&[0, least - 1, least - 1, least, least, least, least + 1]);
         Some(i128::from(state.zero + state.tare + memory.last) + self.rng.pick(&[-1, 1]) * by)
     }
 
     /// A net that is printed with a tie, or nearly.
     fn net_tie(&mut self, profile: &Profile) -> i128 {
-        let Scale { unit, decimals, step } = profile.scale;
+        let Scale { unit, decimals, step } = profile.scale(self.state().unit);
         if decimals > 7 {
             return 0;
         }
@@ -468,6 +540,7 @@ impl Maker<'_> {
             0..=14 => self.typed_line("TA"),
             15..=19 => self.shown_text(),
             20..=24 => self.typed_line("SR"),
+            25..=31 => self.unit_command(),
             _ => self.rng.pick(&NAMES).as_bytes().to_vec(),
         }
     }
@@ -476,7 +549,7 @@ impl Maker<'_> {
     fn typed_line(&mut self, name: &str) -> Vec<u8> {
         let number = if name == "TA" && self.rng.chance(60) { self.typed_tare() } else { self.typed_number() };
         let number = self.odd_number(number);
-        let unit = self.replay.profile.scale.unit.name().to_string();
+        let unit = self.state().unit.name().to_string();
         let other = self.rng.pick(&UNITS).name();
         let text = match self.rng.below(36) {
             0 => format!("{name} {number}"),
@@ -490,6 +563,7 @@ impl Maker<'_> {
             8 => format!("{name} {unit} {number}"),
             9 => format!("{name} {number} {unit}x"),
             10 => format!("{name} {}", self.rng.pick(&["", " ", "- g", ". g", " g", "1.2.3 g", "1 kg", "x"])),
+            11 => format!("{name} {number} {}", self.rng.pick(&["g", "g", "kg", "lb"])),
             _ => format!("{name} {number} {unit}"),
         };
         text.into_bytes()
@@ -498,7 +572,7 @@ impl Maker<'_> {
     /// A number that TA rounds to some display steps, at a tie or beside one: to those near C, to those at a tie of the second
     /// rounding, or to any; now and then with as many more as 32 bits lose.
     fn typed_tare(&mut self) -> String {
-        let Profile { capacity, scale: Scale { unit, decimals, step }, .. } = self.replay.profile;
+        let (capacity, Scale { unit, decimals, step }) = (self.replay.profile.capacity, self.scale());
         let (k, decimals) = (i128::from(step.max(1)), decimals.min(6));
         let (above, below) = (k * unit.nanograms(), 1000 * ten_to(decimals.into()));
         let most = (2 * i128::from(capacity) * below + above) / (2 * above);
@@ -519,7 +593,7 @@ impl Maker<'_> {
 
     /// A number near C, at a tie of its rounding to micrograms, or any.
     fn typed_number(&mut self) -> String {
-        let nanograms = self.replay.profile.scale.unit.nanograms();
+        let nanograms = self.state().unit.nanograms();
         let capacity = i128::from(self.replay.profile.capacity);
         let decimals = self.rng.below(7) as u8;
         let below = 1000 * ten_to(decimals.into());
@@ -596,7 +670,7 @@ impl Maker<'_> {
                 .rng
                 .pick(&[
                     "SIX", "SIRR", "TAX", "TACT", "ZIR", "I6", "I", "I00", "DWA", "K", "SRX", "SRR", "SRU", "RS", "C", "s", "si",
-                    "sr",
+                    "sr", "M2", "M211", "M22", "M20", "m21", "M21X",
                 ])
                 .to_string(),
             12 => return self.long_line(),
@@ -609,8 +683,11 @@ impl Maker<'_> {
     /// A line of 62 to 67 bytes, or of many more.
     fn long_line(&mut self) -> Vec<u8> {
         let length = if self.rng.chance(80) { self.rng.between(62, 67) } else { self.rng.between(60, 200) } as usize;
-        let mut line =
-            self.rng.pick(&["S ", "D \"", "D ", "TA ", "@ ", "X", "T 1 ", "TA 1 g ", "SR ", "SR 1 g "]).as_bytes().to_vec();
+        let mut line = self
+            .rng
+            .pick(&["S ", "D \"", "D ", "TA ", "@ ", "X", "T 1 ", "TA 1 g ", "SR ", "SR 1 g ", "M21 ", "M21 0 5 "])
+            .as_bytes()
+            .to_vec();
         let filler = self.rng.pick(b" x0\"");
         line.resize(length, filler);
         line
@@ -693,7 +770,7 @@ impl Maker<'_> {
         }
         self.send_in_buffers(&bytes);
         if roomy {
-            self.say("room 256");
+            self.say("room 384");
         }
     }
 
@@ -729,12 +806,12 @@ impl Maker<'_> {
     /// A room at or beside one of the sums of the answers that are due, or any.
     fn room_for(&mut self, bytes: &[(u8, bool)]) -> i128 {
         if self.rng.chance(20) {
-            return self.rng.pick(&[0, 3, 17, 30, 256, 1024, 4095, 4096, 4096, 4096]);
+            return self.rng.pick(&[0, 3, 17, 30, 256, 384, 1024, 4095, 4096, 4096, 4096]);
         }
         let mut state = self.state();
         let mut sums = vec![0];
         for &(byte, good) in bytes {
-            let due = Module::default().byte(&self.replay.profile, &mut state, byte, u8::from(!good), &mut [0; 256]).n;
+            let due = Module::default().byte(&self.replay.profile, &mut state, byte, u8::from(!good), &mut [0; 384]).n;
             if due > 0 {
                 sums.push(sums[sums.len() - 1] + due as i128);
             }
@@ -780,19 +857,23 @@ impl Maker<'_> {
         let room = match self.rng.below(10) {
             0..=1 => self.rng.between(0, 3),
             2..=7 => self.rng.between(4, 30),
-            8 => self.rng.between(242, 246),
-            _ => self.rng.pick(&[31, 48, 49, 50, 255, 256, 257, 1024, 4095, 4096]),
+            8 => self.rng.between(256, 260),
+            _ => self.rng.pick(&[31, 48, 49, 50, 255, 256, 257, 384, 1024, 4095, 4096]),
         };
         self.say(&format!("room {room}"));
         for _ in 0..self.rng.between(1, 4) {
             match self.rng.below(10) {
                 0..=1 => self.say("> I0"),
+                2 if self.rng.chance(50) => {
+                    let line = self.unit_command();
+                    self.send(line);
+                }
                 2 => self.say("on"),
                 3..=5 => self.sample(),
                 _ => self.command(),
             }
         }
-        self.say("room 256");
+        self.say("room 384");
         if self.rng.chance(60) {
             self.say("b 0A");
         }
@@ -803,7 +884,7 @@ impl Maker<'_> {
         let former = self.replay.profile.clone();
         let other = match self.rng.below(10) {
             0..=2 => bad_profile(self.rng, &former),
-            3 => good_profile(self.rng),
+            3 => good_profile(self.rng).0,
             _ => self.narrowed(&former),
         };
         let with_texts = other.texts != former.texts;
@@ -821,9 +902,10 @@ impl Maker<'_> {
         if self.rng.chance(70) {
             self.set_profile(&former, with_texts);
         } else if self.replay.profile.is_refused(None) {
-            let next = good_profile(self.rng);
+            let (next, unit) = good_profile(self.rng);
             self.set_profile(&next, true);
             self.say("on");
+            self.first_unit(unit);
         }
     }
 
@@ -840,7 +922,10 @@ impl Maker<'_> {
             0 => other = with_capacity(other, (state.tare as u32).saturating_sub(below)),
             1 | 2 => other.zeroing = (state.zero.unsigned_abs() as u32).saturating_sub(below),
             3 => other.patience = (state.waiting.map_or(1, |wait| wait.unstable + 1)).saturating_sub(below).max(1),
-            _ => other.scale = any_scale(self.rng),
+            _ => {
+                let unit = if self.rng.chance(50) { state.unit } else { self.rng.pick(&UNITS) };
+                other.places[unit.index()] = any_places(self.rng);
+            }
         }
         other
     }
@@ -866,7 +951,7 @@ impl Maker<'_> {
     }
 
     fn odd_script_line(&mut self) {
-        const LINES: [&str; 64] = [
+        const LINES: [&str; 77] = [
             "x",
             "on ",
             " on",
@@ -916,12 +1001,25 @@ impl Maker<'_> {
             "w* 41",
             "w* 1 41",
             "profile",
-            "profile 1 1 1 1 g 1",
-            "profile 1 1 1 1 kg 1 1",
-            "profile 4294967296 1 1 1 g 1 1",
-            "profile 1 1 1 1 g 256 1",
-            "profile 1 1 1 1 g 1 1 1",
-            "profile 1 1 1 1 g -1 1",
+            "profile 1 1 1",
+            "profile 1 1 1 1 1",
+            "profile 1 1 1 1 g 4 1",
+            "profile 4294967296 1 1 1",
+            "profile 1 1 1 -1",
+            "profile 1 1 1 1 ",
+            "unit",
+            "unit g",
+            "unit g 1",
+            "unit g 1 1 1",
+            "unit t 1 1",
+            "unit G 1 1",
+            "unit KG 1 1",
+            "unit 5 1 1",
+            "unit g 256 1",
+            "unit g 1 256",
+            "unit g -1 1",
+            "unit lb  1 1",
+            "units g 1 1",
             "room",
             "room 4097",
             "room -1",
@@ -937,6 +1035,144 @@ impl Maker<'_> {
     }
 
     // Short scenes, so that deep states are met often.
+
+    /// M21 as it is asked or set, or nearly.
+    fn unit_command(&mut self) -> Vec<u8> {
+        let code = self.rng.pick(&UNITS).code();
+        match self.rng.below(10) {
+            0 | 1 => b"M21".to_vec(),
+            2 | 3 => self.odd_unit_command(code).into_bytes(),
+            4 => format!("M21 0 {}", self.state().unit.code()).into_bytes(),
+            _ => format!("M21 0 {code}").into_bytes(),
+        }
+    }
+
+    fn odd_unit_command(&mut self, code: &str) -> String {
+        const OTHERS: [&str; 34] = [
+            "2",
+            "4",
+            "4",
+            "6",
+            "12",
+            "13",
+            "14",
+            "17",
+            "18",
+            "19",
+            "20",
+            "20",
+            "21",
+            "22",
+            "23",
+            "24",
+            "25",
+            "99",
+            "100",
+            "255",
+            "256",
+            "256",
+            "257",
+            "261",
+            "263",
+            "265",
+            "4294967296",
+            "4294967296",
+            "4294967301",
+            "18446744073709551621",
+            "x",
+            "g",
+            "ct",
+            "lb",
+        ];
+        let other = self.rng.pick(&OTHERS);
+        match self.rng.below(21) {
+            0 => "M21 ".to_string(),
+            1 => "M21 0".to_string(),
+            2 => "M21 0 ".to_string(),
+            3 | 4 => format!("M21 0 0{code}"),
+            5 => format!("M21 00 {code}"),
+            6 => format!("M21 1 {code}"),
+            7 => format!("M21 2 {code}"),
+            8 => format!("M21 0  {code}"),
+            9 => format!("M21 0 {code} "),
+            10 => format!("M21 {code}"),
+            11 => format!("M21 0 +{code}"),
+            12 => format!("M21  0 {code}"),
+            13 => format!("M21 0 {code} {code}"),
+            _ => format!("M21 0 {other}"),
+        }
+    }
+
+    /// Other units come into force, with what has to stay or to follow: a tare, a typed one, a repetition, SR and a set threshold, what
+    /// is owed, a text that is shown, a wait.
+    fn change_units(&mut self) {
+        match self.rng.below(8) {
+            0 => self.say("> SIR"),
+            1 | 2 => {
+                let load = self.first_load();
+                self.put(load, true);
+                let line = self.sr_line();
+                self.send(line);
+            }
+            3 => {
+                let line = self.typed_line("TA");
+                self.send(line);
+            }
+            4 => self.tare_or_zero(),
+            5 => {
+                self.sample_of(false);
+                let line = self.rng.pick(&["> T", "> S", "> Z", "> SR", "> D \"UNIT\""]);
+                self.say(line);
+            }
+            _ => {}
+        }
+        for _ in 0..self.rng.between(1, 4) {
+            let line = self.unit_command();
+            self.send(line);
+            match self.rng.below(16) {
+                0..=3 => self.say("> TA"),
+                4..=6 => self.sample_near_change(),
+                7 => self.say("> @"),
+                8 => self.say("> M21"),
+                9 => {
+                    let line = self.typed_line("TA");
+                    self.send(line);
+                }
+                10 => {
+                    let line = self.typed_line("SR");
+                    self.send(line);
+                }
+                _ => {
+                    self.sample();
+                    self.say("> SI");
+                }
+            }
+        }
+        if self.rng.chance(60) {
+            self.say("> M21");
+        }
+    }
+
+    /// One unit's line alone, good or bad, and a few calls; then as it was.
+    fn unit_alone(&mut self) {
+        let former = self.replay.profile.clone();
+        let unit = if self.rng.chance(40) { self.state().unit } else { self.rng.pick(&UNITS) };
+        let (decimals, step) =
+            (self.rng.pick(&[0, 1, 3, 4, 5, 6, 6, 7, 7, 8, 255]), self.rng.pick(&[0, 1, 1, 2, 3, 4, 5, 5, 10, 255]));
+        self.say(&unit_line(Scale { unit, decimals, step }));
+        for _ in 0..self.rng.between(1, 3) {
+            match self.rng.below(5) {
+                0 => self.sample(),
+                1 => self.say("on"),
+                2 => {
+                    let line = self.unit_command();
+                    self.send(line);
+                }
+                _ => self.command(),
+            }
+        }
+        self.set_profile(&former, false);
+    }
 
     /// A command waits for a stable sample; now and then another line comes in between.
     fn wait(&mut self) {
@@ -987,7 +1223,12 @@ impl Maker<'_> {
             self.other_profile();
         }
         for _ in 0..self.rng.between(4, 14) {
-            match self.rng.below(32) {
+            match self.rng.below(36) {
+                32..=34 => {
+                    let line = self.unit_command();
+                    self.send(line);
+                    self.sample_near_change();
+                }
                 0 => self.command(),
                 1 => self.odd_line(),
                 2 => self.raw_line(),
@@ -1017,7 +1258,7 @@ impl Maker<'_> {
 
     /// SR alone, with a threshold of some display steps, or with any parameter.
     fn sr_line(&mut self) -> Vec<u8> {
-        let Scale { unit, decimals, .. } = self.replay.profile.scale;
+        let Scale { unit, decimals, .. } = self.scale();
         match self.rng.below(10) {
             0..=5 => b"SR".to_vec(),
             6..=7 => {
@@ -1037,7 +1278,7 @@ impl Maker<'_> {
         let net = match self.rng.below(5) {
             0 => self.rng.between(-2, 2),
             1 if !profile.is_refused(None) => {
-                self.rng.pick(&[-8, 8]) * least_change(0, None, profile.scale) + self.rng.between(-2, 2)
+                self.rng.pick(&[-8, 8]) * least_change(0, None, self.scale()) + self.rng.between(-2, 2)
             }
             2 => any / 8 * 8,
             _ => any,
@@ -1089,13 +1330,13 @@ impl Maker<'_> {
 
     /// A room that is one too short for the weight or for + and -, while samples come close to the threshold.
     fn short_of_a_reading(&mut self) {
-        let unit = self.replay.profile.scale.unit.name().len();
+        let unit = self.state().unit.name().len();
         let room = self.rng.pick(&[0, 4, 5, 16 + unit, 16 + unit, 17 + unit]);
         self.say(&format!("room {room}"));
         for _ in 0..self.rng.between(1, 4) {
             self.sample_near_change();
         }
-        self.say("room 256");
+        self.say("room 384");
     }
 
     /// A text is shown, then comes what has to leave it, or what takes it away.
@@ -1206,13 +1447,14 @@ fn change(rng: &mut Rng, line: &mut [u8]) {
     let at = rng.below(line.len());
     line[at] = match rng.below(3) {
         0 => line[at] ^ (1 << rng.below(8)),
-        1 => rng.pick(b" 0123456789.-+\"ABDILSTZ@\r\ngmctoz"),
+        1 => rng.pick(b" 0123456789.-+\"ABDILMSTZ@\r\ngmctozklb"),
         _ => rng.between(0, 255) as u8,
     };
 }
 
 fn answer_line(rng: &mut Rng) -> Vec<u8> {
-    let body = match rng.below(10) {
+    let body = match rng.below(11) {
+        10 => unit_body(rng).into_bytes(),
         0..=4 => weight_body(rng).into_bytes(),
         5 | 6 => {
             let letters = ["A", "A", "S", "D", "+", "-", "L", "I", "I", "B"];
@@ -1230,9 +1472,23 @@ fn answer_line(rng: &mut Rng) -> Vec<u8> {
     [&body[..], b"\r\n"].concat()
 }
 
+/// What M21 answers, or nearly.
+fn unit_body(rng: &mut Rng) -> String {
+    let code = rng.pick(&UNITS).code();
+    match rng.below(20) {
+        0 => format!("M21 A 0 {}", rng.pick(&["2", "4", "6", "12", "20", "20", "23", "256"])),
+        1 => format!("M21 A 0 0{code}"),
+        2 => format!("M21 A 1 {code}"),
+        3 => format!("M21 B 0 {code}"),
+        4 => format!("M21 A {}", rng.pick(&["0", "0 ", "5", "00 5", "0 +5", "0  5", "0 5 "])),
+        5..=9 => format!("M21 {}", rng.pick(&["A", "A", "I", "L", "B", "S", "+"])),
+        _ => format!("M21 A 0 {code}"),
+    }
+}
+
 fn listed_body(rng: &mut Rng) -> String {
     let (name, level) = rng.pick(&COMMANDS);
-    let told = if rng.chance(80) { level } else { rng.below(3) as u8 };
+    let told = if rng.chance(80) { level } else { rng.below(4) as u8 };
     format!("I0 {} {told} \"{name}\"", rng.pick(&["A", "B", "B", "I"]))
 }
 
@@ -1247,7 +1503,7 @@ fn text_body(rng: &mut Rng) -> Vec<u8> {
 
 fn weight_body(rng: &mut Rng) -> String {
     let head = rng.pick(&["S S", "S S", "S D", "T S", "TI S", "TI D", "TA A", "T D", "Z S", "ZI S", "SI S", "S A"]);
-    let unit = if rng.chance(95) { rng.pick(&UNITS).name() } else { rng.pick(&["kg", "lb", "", "G", "gn", "g "]) };
+    let unit = if rng.chance(95) { rng.pick(&UNITS).name() } else { rng.pick(&["t", "t", "LB", "Kg", "", "G", "gn", "g "]) };
     let number = field_number(rng);
     match rng.below(20) {
         0 => format!("{head} {number} {unit}"),

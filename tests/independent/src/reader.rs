@@ -3,7 +3,7 @@
 use crate::faults::Fault;
 use crate::module::{Outcome, COMMANDS};
 use crate::profile::{is_text, TEXT_ROOMS};
-use crate::weight::{number_text, Unit};
+use crate::weight::{number_text, Unit, UNITS};
 
 pub const VERSIONS: &[u8] = b"I1 A \"0\" \"2.30\" \"2.20\"";
 
@@ -19,6 +19,8 @@ pub enum Answer {
     Listed { status: char, level: u8, name: String },
     /// The one line of I1.
     Versions,
+    /// What M21 answers where it is asked for the unit.
+    Unit { unit: Unit },
     /// I2 to I5.
     Text { identification: String, text: Vec<u8> },
 }
@@ -68,7 +70,14 @@ impl Reader {
     }
 
     fn read_status(&self, identification: &str, status: char) -> Option<Answer> {
-        if self.has(Fault::ReadNoWrongS) && (identification, status) == ("S", 'L') {
+        let refused = match (identification, status) {
+            ("S", 'L') => self.has(Fault::ReadNoWrongS),
+            ("M21", 'A') => self.has(Fault::ReadNoUnitSet),
+            ("M21", 'I') => self.has(Fault::ReadNoUnitBusy),
+            ("M21", 'L') => self.has(Fault::ReadNoUnitWrong),
+            _ => false,
+        };
+        if refused {
             return None;
         }
         let known = has_status(identification, status)
@@ -84,6 +93,8 @@ impl Reader {
     fn read_more(&self, identification: &str, status: char, more: &[u8]) -> Option<Answer> {
         match (identification, status) {
             ("I0", 'A' | 'B') => self.read_listed(status, more),
+            ("M21", 'A') => self.read_unit(more),
+            ("M21", 'B') if self.has(Fault::ReadUnitB) => self.read_unit(more),
             ("I2" | "I3" | "I4" | "I5", 'A') => self.read_text(identification, more),
             _ if weighs(identification, status) => self.read_weight(identification, status, more),
             _ => None,
@@ -94,10 +105,32 @@ impl Reader {
         let (level, quoted) = more.split_first()?;
         let name = quoted.strip_prefix(b" \"")?.strip_suffix(b"\"")?;
         let same = |(known, at): &&(&str, u8)| {
-            known.as_bytes() == name && (b'0' + at == *level || (self.has(Fault::ReadOtherLevel) && *level < b'2'))
+            let other = match *level {
+                b'0' | b'1' if *known == "M21" => *level == b'1' && self.has(Fault::ReadUnitAtLevelOne),
+                level => self.has(Fault::ReadOtherLevel) && level < b'2',
+            };
+            known.as_bytes() == name && (b'0' + at == *level || other)
         };
         let (name, level) = COMMANDS.iter().find(same)?;
         Some(Answer::Listed { status, level: *level, name: name.to_string() })
+    }
+
+    /// 0 for the host unit, and the code of one of the nine units.
+    fn read_unit(&self, more: &[u8]) -> Option<Answer> {
+        let host = more.strip_prefix(b"0 ");
+        let code = match self.fault {
+            Some(Fault::ReadDisplayUnit) => host.or(more.strip_prefix(b"1 "))?,
+            Some(Fault::ReadLoneHost) if more == b"0" => b"0",
+            _ => host?,
+        };
+        let unit = match (self.fault, code) {
+            (Some(Fault::ReadTonneCode), b"2") => Unit::Kilogram,
+            (Some(Fault::ReadTwentyAsPounds), b"20") => Unit::Pound,
+            (Some(Fault::ReadPaddedCode), [b'0', _, ..]) => Unit::coded(&code[1..])?,
+            (Some(Fault::ReadUnitByIndex), [digit @ b'0'..=b'8']) => UNITS[usize::from(digit - b'0')],
+            _ => Unit::coded(code)?,
+        };
+        Some(Answer::Unit { unit })
     }
 
     fn read_text(&self, identification: &str, more: &[u8]) -> Option<Answer> {
@@ -115,7 +148,9 @@ impl Reader {
         let at = more.iter().rposition(|&byte| byte == b' ')?;
         let (field, name) = (&more[..at], &more[at + 1..]);
         let unit = match Unit::named(name) {
-            None if self.has(Fault::ReadOtherUnit) && name == b"kg" => Unit::Gram,
+            None if self.has(Fault::ReadOtherUnit) && name == b"t" => Unit::Gram,
+            Some(Unit::Kilogram) if self.has(Fault::ReadNoKilograms) => return None,
+            Some(Unit::Pound) if self.has(Fault::ReadNoPounds) => return None,
             unit => unit?,
         };
         let short = self.has(Fault::ReadShortField) && field.len() == 9;
@@ -175,10 +210,10 @@ fn text_room(identification: &str) -> Option<usize> {
 /// The identifications and statuses that stand alone.
 pub fn has_status(identification: &str, status: char) -> bool {
     match status {
-        'A' => ["Z", "TAC", "D", "DW"].contains(&identification),
+        'A' => ["Z", "TAC", "D", "DW", "M21"].contains(&identification),
         'S' | 'D' => identification == "ZI",
         '+' | '-' => ["S", "Z", "ZI", "T", "TI"].contains(&identification),
-        'L' => ["S", "D", "TA"].contains(&identification),
+        'L' => ["S", "D", "TA", "M21"].contains(&identification),
         'I' => !["SI", "SIR", "SR", "@"].contains(&identification) && COMMANDS.iter().any(|(name, _)| *name == identification),
         _ => false,
     }
@@ -205,6 +240,7 @@ pub fn line_of(answer: &Answer) -> Option<Vec<u8>> {
             known.then(|| format!("I0 {status} {level} \"{name}\"").into_bytes())?
         }
         Answer::Versions => VERSIONS.to_vec(),
+        Answer::Unit { unit } => format!("M21 A 0 {}", unit.code()).into_bytes(),
         Answer::Text { identification, text } => {
             let room = text_room(identification)?;
             is_text(text, room, None).then(|| [identification.as_bytes(), b" A \"", text, b"\""].concat())?

@@ -35,7 +35,8 @@ pub enum Called<'a> {
 /// What a script line asks for.
 enum Order {
     Nothing,
-    Profile { capacity: u32, margin: u32, zeroing: u32, patience: u32, scale: Scale },
+    Profile { capacity: u32, margin: u32, zeroing: u32, patience: u32 },
+    Unit(Scale),
     Text { at: usize, text: Vec<u8> },
     Room(usize),
     On,
@@ -54,7 +55,7 @@ pub struct Replay {
 
 impl Replay {
     pub fn new(module: Module) -> Replay {
-        Replay { module, profile: Profile::a(), room: 256, state: None }
+        Replay { module, profile: Profile::a(), room: 384, state: None }
     }
 
     /// Does one line of the script; its output is added to out, and each call is shown to the watcher.
@@ -62,10 +63,11 @@ impl Replay {
         match order(line) {
             None => out.extend(b"?\r\n"),
             Some(Order::Nothing) => {}
-            Some(Order::Profile { capacity, margin, zeroing, patience, scale }) => {
-                let texts = std::mem::take(&mut self.profile.texts);
-                self.profile = Profile { capacity, margin, zeroing, patience, scale, texts };
+            Some(Order::Profile { capacity, margin, zeroing, patience }) => {
+                let Profile { places, texts, .. } = self.profile.clone();
+                self.profile = Profile { capacity, margin, zeroing, patience, places, texts };
             }
+            Some(Order::Unit(scale)) => self.profile = self.profile.clone().with_scale(scale),
             Some(Order::Text { at, text }) => self.profile.texts[at] = text,
             Some(Order::Room(room)) => self.room = room,
             Some(Order::On) => self.on(out, watch),
@@ -143,7 +145,7 @@ fn state_line(state: &State) -> Vec<u8> {
     };
     let shows = state.shown.as_ref().map_or(b"weight".to_vec(), |text| [b"\"", &text[..], b"\""].concat());
     let before = format!("state zero {} tare {} sample {sample} waits {waits} repeats {repeats} shows ", state.zero, state.tare);
-    let after = format!(" line {}\r\n", line_words(&state.line));
+    let after = format!(" line {} unit {}\r\n", line_words(&state.line), state.unit.name());
     [before.as_bytes(), &shows, after.as_bytes()].concat()
 }
 
@@ -208,6 +210,7 @@ fn order(line: &[u8]) -> Option<Order> {
     let rest = &line[at + 1..];
     match &line[..at] {
         b"profile" => profile_order(rest),
+        b"unit" => unit_order(rest),
         b"text" => text_order(rest),
         b"room" => Some(Order::Room(number(rest, MOST_ROOM as u64)? as usize)),
         b"b" => bytes_order(rest, true),
@@ -222,16 +225,22 @@ fn order(line: &[u8]) -> Option<Order> {
 
 fn profile_order(rest: &[u8]) -> Option<Order> {
     let words: Vec<&[u8]> = rest.split(|&byte| byte == b' ').collect();
-    let [capacity, margin, zeroing, patience, unit, decimals, step] = words[..] else { return None };
+    let [capacity, margin, zeroing, patience] = words[..] else { return None };
     let weight = |word| number(word, MOST).map(|n| n as u32);
-    let small = |word| number(word, 255).map(|n| n as u8);
     Some(Order::Profile {
         capacity: weight(capacity)?,
         margin: weight(margin)?,
         zeroing: weight(zeroing)?,
         patience: weight(patience)?,
-        scale: Scale { unit: Unit::named(unit)?, decimals: small(decimals)?, step: small(step)? },
     })
+}
+
+/// Decimals and step of one unit.
+fn unit_order(rest: &[u8]) -> Option<Order> {
+    let words: Vec<&[u8]> = rest.split(|&byte| byte == b' ').collect();
+    let [unit, decimals, step] = words[..] else { return None };
+    let small = |word| number(word, 255).map(|n| n as u8);
+    Some(Order::Unit(Scale { unit: Unit::named(unit)?, decimals: small(decimals)?, step: small(step)? }))
 }
 
 fn text_order(rest: &[u8]) -> Option<Order> {

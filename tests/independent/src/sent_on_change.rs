@@ -32,7 +32,7 @@ struct Waiting {
 
 pub struct Follower {
     profile: Profile,
-    /// It follows line, load, zero and tare.
+    /// It follows line, load, zero, tare and the unit in force.
     tally: Tally,
     stable: bool,
     waiting: Option<Waiting>,
@@ -85,7 +85,7 @@ impl Follower {
     fn due(&mut self) -> Option<&'static str> {
         let told = self.reading()?;
         let (_, net) = self.tally.gross_and_net()?;
-        let steps = 30 * display_step(self.profile.scale);
+        let steps = 30 * display_step(self.tally.scale());
         match &mut self.sends {
             Sends::Nothing => None,
             Sends::Each => Some(told),
@@ -173,11 +173,12 @@ impl Follower {
         agree(None, answer)
     }
 
-    /// Number, one space, the profile's unit; 1 to C once it is rounded to the microgram.
+    /// Number, one space, the unit in force; 1 to C once it is rounded to the microgram.
     fn threshold(&self, rest: &[u8]) -> Option<i128> {
         let (number, unit) = rest.split_at(rest.iter().position(|&byte| byte == b' ')?);
-        let set = typed_micrograms(number, self.profile.scale, None)?;
-        let good = Unit::named(&unit[1..]) == Some(self.profile.scale.unit) && (1..=self.profile.capacity.into()).contains(&set);
+        let scale = self.tally.scale();
+        let set = typed_micrograms(number, scale, None)?;
+        let good = Unit::named(&unit[1..]) == Some(scale.unit) && (1..=self.profile.capacity.into()).contains(&set);
         good.then_some(set * MICROGRAM)
     }
 }

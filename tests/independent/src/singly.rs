@@ -33,7 +33,7 @@ impl Singly<'_> {
             let mut state = self.given.clone();
             let bytes = self.bytes.iter().zip(self.marks).take(self.count.saturating_add(1));
             let alone = bytes.map(|(&byte, &mark)| {
-                let mut room = [0; 256];
+                let mut room = [0; 384];
                 let outcome = self.module.byte(self.profile, &mut state, byte, mark, &mut room);
                 (Call::Byte { byte, good: mark == 0 }, room[..outcome.n].to_vec())
             });

@@ -1,12 +1,12 @@
 //! Scripts and captures that go through every limit once, without chance.
 
-use crate::cases::run;
+use crate::cases::{profile_a, run, set_unit};
 use crate::compare::Script;
 use crate::module::COMMANDS;
 use crate::on_change::least_change;
 use crate::profile::Profile;
-use crate::random::{largest, profile_line, tie};
-use crate::weight::{number_text, ten_to, typed_tare, Scale, Unit, UNITS};
+use crate::random::{largest, profile_lines, tie};
+use crate::weight::{number_text, ten_to, typed_tare, Places, Scale, Unit, UNITS};
 
 pub fn scripts() -> Vec<Script> {
     let mut scripts: Vec<Script> = scales().map(widths).collect();
@@ -15,26 +15,38 @@ pub fn scripts() -> Vec<Script> {
     scripts.extend(UNITS.map(threshold_limits));
     scripts.extend(scales().filter_map(changes));
     scripts.extend([names(), bytes(), lengths(), faults(), patience(), rooms(), repetition(), display()]);
+    scripts.extend([unit_parameters(), unit_moves()]);
+    scripts.extend(UNITS.map(unit_limits));
     scripts.extend([buffer_cuts(), buffer_rooms(), buffer_faults(), buffer_lengths(), buffer_refusals()]);
     scripts
 }
 
 /// A script on profile A, from its lines, each followed by `state`.
 fn script(lines: impl IntoIterator<Item = String>) -> Script {
-    let start =
-        ["profile 220000000 1000000 4400000 3 g 4 1", "text 2 ", "text 3 ", "text 4 VA-0001", "text 5 ", "room 256", "on"];
-    let seen = lines.into_iter().flat_map(|line| [line, "state".to_string()]);
-    start.map(String::from).into_iter().chain(seen).map(String::into_bytes).collect()
+    let start = profile_a().into_iter().chain(["room 384", "on"].map(String::from));
+    let is_set = |line: &str| line.starts_with("profile ") || line.starts_with("unit ");
+    let seen = lines.into_iter().flat_map(|line| {
+        let state = (!is_set(&line)).then(|| "state".to_string());
+        [line].into_iter().chain(state)
+    });
+    start.chain(seen).map(String::into_bytes).collect()
 }
 
-fn text_of(line: Vec<u8>) -> String {
-    String::from_utf8_lossy(&line).into_owned()
+/// Sets a profile and powers on, with this unit in force.
+fn started(profile: &Profile, unit: Unit) -> Vec<String> {
+    let set = profile_lines(profile).into_iter().map(|line| String::from_utf8_lossy(&line).into_owned());
+    set.chain(["on".to_string(), set_unit(unit)]).collect()
+}
+
+/// Profile A with a scale of which no other unit draws in the limits.
+fn alone(scale: Scale) -> Profile {
+    Profile { places: [Places { decimals: 0, step: 1 }; 9], margin: 0, zeroing: 0, ..Profile::a() }.with_scale(scale)
 }
 
 // Profiles and typed numbers.
 
 /// Every unit with 0 to 7 decimals and steps 0 to 6.
-fn scales() -> impl Iterator<Item = Scale> {
+pub fn scales() -> impl Iterator<Item = Scale> {
     let of_unit = |unit: Unit| (0..8).flat_map(move |decimals| (0..7).map(move |step| Scale { unit, decimals, step }));
     UNITS.into_iter().flat_map(of_unit)
 }
@@ -53,48 +65,42 @@ fn widths(scale: Scale) -> Script {
         lowest.clone(),
         Profile { margin: lowest.margin + 1, ..lowest },
     ];
-    script(profiles.iter().flat_map(ends))
+    script(profiles.iter().flat_map(|profile| ends(profile, scale.unit)))
 }
 
 /// The largest capacity that a scale can have, without a margin.
 fn widest_capacity(scale: Scale) -> u32 {
-    let base = Profile { margin: 0, zeroing: 0, scale, ..Profile::a() };
+    let base = alone(scale);
     largest(1_000_000_000, |capacity| !Profile { capacity, ..base.clone() }.is_refused(None)).max(1)
 }
 
 pub fn with_widest_capacity(scale: Scale) -> Profile {
-    Profile { margin: 0, zeroing: 0, scale, capacity: widest_capacity(scale), ..Profile::a() }
+    Profile { capacity: widest_capacity(scale), ..alone(scale) }
 }
 
 /// Half of that, and the largest margin beside it.
 fn widest_margin(scale: Scale) -> Profile {
     let capacity = widest_capacity(scale).div_ceil(2);
-    let halved = Profile { margin: 0, zeroing: 0, scale, capacity, ..Profile::a() };
+    let halved = Profile { capacity, ..alone(scale) };
     let margin = largest(capacity, |margin| !Profile { margin, ..halved.clone() }.is_refused(None));
     Profile { margin, ..halved }
 }
 
-fn ends(profile: &Profile) -> Vec<String> {
+fn ends(profile: &Profile, unit: Unit) -> Vec<String> {
     let Profile { capacity, margin, .. } = profile;
-    let on = [text_of(profile_line(profile)), "on".to_string()];
     let loads = [format!("s {capacity}"), "> SI".to_string(), "> T".to_string(), format!("u -{margin}"), "> SI".to_string()];
-    on.into_iter().chain(loads).collect()
+    started(profile, unit).into_iter().chain(loads).collect()
 }
 
 /// Numbers around the capacity with every count of decimals, in one unit.
 fn typed_limits(unit: Unit) -> Script {
     let scale = Scale { unit, decimals: 2, step: 1 };
     let capacities = [1, 999, 50_000_000, 99_999_999];
-    script(
-        capacities
-            .into_iter()
-            .flat_map(|capacity| typed_around(Profile { capacity, margin: 0, zeroing: 0, scale, ..Profile::a() })),
-    )
+    script(capacities.into_iter().flat_map(|capacity| typed_around(Profile { capacity, ..alone(scale) }, unit)))
 }
 
-fn typed_around(profile: Profile) -> Vec<String> {
-    let unit = profile.scale.unit;
-    let mut lines = vec![text_of(profile_line(&profile)), "on".to_string()];
+fn typed_around(profile: Profile, unit: Unit) -> Vec<String> {
+    let mut lines = started(&profile, unit);
     for decimals in 0..8u8 {
         let most = i128::from(profile.capacity) * 1000 * ten_to(decimals.into()) / unit.nanograms();
         for number in (most - 3).max(0)..=most + 3 {
@@ -150,7 +156,7 @@ fn typed_ties(scale: Scale) -> Script {
     let numbers: Vec<String> = numbers.chain(nines).collect();
     let tares = numbers.iter().map(|number| typed_line("TA", number, scale));
     let thresholds = numbers[..4].iter().flat_map(|number| [typed_line("SR", number, scale), "> @".to_string()]);
-    script([text_of(profile_line(&profile)), "on".to_string()].into_iter().chain(tares).chain(thresholds))
+    script(started(&profile, scale.unit).into_iter().chain(tares).chain(thresholds))
 }
 
 fn typed_line(name: &str, number: &str, scale: Scale) -> String {
@@ -167,9 +173,9 @@ fn typed_beside_capacity(scale: Scale) -> Script {
         let tare = typed_tare(decimal.as_bytes(), scale, None).unwrap_or(0) as u32;
         let numbers: Vec<String> = (2 * steps - 1..=2 * steps + 1).flat_map(|halves| typed_halves(halves, scale)).collect();
         (tare.max(2) - 1..=tare + 1).flat_map(move |capacity| {
-            let profile = Profile { capacity, margin: 0, zeroing: 0, scale, ..Profile::a() };
+            let profile = Profile { capacity, ..alone(scale) };
             let typed = numbers.clone().into_iter().map(|number| typed_line("TA", &number, scale));
-            [text_of(profile_line(&profile)), "on".to_string()].into_iter().chain(typed).collect::<Vec<_>>()
+            started(&profile, scale.unit).into_iter().chain(typed).collect::<Vec<_>>()
         })
     }))
 }
@@ -180,16 +186,11 @@ fn typed_beside_capacity(scale: Scale) -> Script {
 fn threshold_limits(unit: Unit) -> Script {
     let scale = Scale { unit, decimals: 2, step: 1 };
     let capacities = [1, 2, 999, 99_999_999];
-    script(
-        capacities
-            .into_iter()
-            .flat_map(|capacity| thresholds_around(Profile { capacity, margin: 0, zeroing: 0, scale, ..Profile::a() })),
-    )
+    script(capacities.into_iter().flat_map(|capacity| thresholds_around(Profile { capacity, ..alone(scale) }, unit)))
 }
 
-fn thresholds_around(profile: Profile) -> Vec<String> {
-    let unit = profile.scale.unit;
-    let mut lines = vec![text_of(profile_line(&profile)), "on".to_string()];
+fn thresholds_around(profile: Profile, unit: Unit) -> Vec<String> {
+    let mut lines = started(&profile, unit);
     for decimals in 0..8u8 {
         let places = |micrograms: i128| micrograms * 500 * ten_to(decimals.into()) / unit.nanograms();
         let (half, most) = (places(1), places(2 * i128::from(profile.capacity) + 1));
@@ -210,9 +211,8 @@ fn changes(scale: Scale) -> Option<Script> {
     }
     let meet = 8 * least_change(0, None, scale);
     let nets = [0, 1, meet - 8, meet - 7, meet - 1, meet, meet + 1, meet + 8, i128::from(profile.capacity) / 9 * 8];
-    let on = [text_of(profile_line(&profile)), "on".to_string()];
     let both = nets.into_iter().flat_map(|net| [net, -net]);
-    Some(script(on.into_iter().chain(both.flat_map(|net| changes_from(net, scale)))))
+    Some(script(started(&profile, scale.unit).into_iter().chain(both.flat_map(|net| changes_from(net, scale)))))
 }
 
 fn changes_from(last: i128, scale: Scale) -> Vec<String> {
@@ -229,11 +229,103 @@ fn changes_from(last: i128, scale: Scale) -> Vec<String> {
     lines
 }
 
+// Units.
+
+/// Every code up to 300 and around the powers of two, and other ways to write the nine; when nothing waits, and when T does.
+fn unit_parameters() -> Script {
+    let powers = [8, 16, 31, 32, 63, 64].into_iter().flat_map(|bits| {
+        let power = 1i128 << bits;
+        (power - 1..=power + 12).chain([10 * power])
+    });
+    let numbers = (0..=300).chain(powers).map(|code| format!("0 {code}"));
+    let others = UNITS.into_iter().flat_map(|unit| {
+        let code = unit.code();
+        [
+            code.to_string(),
+            format!("0{code}"),
+            format!(" 0 {code}"),
+            format!("0  {code}"),
+            format!("0 {code} "),
+            format!("0 0{code}"),
+            format!("0 00{code}"),
+            format!("0 +{code}"),
+            format!("0 -{code}"),
+            format!("0 {code}."),
+            format!("0 {code}.0"),
+            format!("0 {code} 0"),
+            format!("0,{code}"),
+            format!("00 {code}"),
+            format!("1 {code}"),
+            format!("2 {code}"),
+            format!("-0 {code}"),
+            format!("0 \"{code}\""),
+            format!("0 {}", unit.name()),
+            unit.name().to_string(),
+        ]
+    });
+    let more = ["", "0", "0 ", " ", "1", "x", "0 x"].map(String::from);
+    let bytes = (32..=126).chain([128, 255]).flat_map(|byte: u8| [vec![byte], vec![b'0', b' ', byte], vec![b'0', byte, b'5']]);
+    let raw = bytes.map(|rest| {
+        let line = [b"M21 ", &rest[..], b"\r\n"].concat();
+        format!("b{}", line.iter().map(|byte| format!(" {byte:02X}")).collect::<String>())
+    });
+    let lines: Vec<String> = numbers.chain(others).chain(more).map(|rest| format!("> M21 {rest}")).chain(raw).collect();
+    let asked = lines.iter().flat_map(|line| [line.clone(), "> M21".to_string()]);
+    let waiting = ["> @".to_string(), set_unit(Unit::Carat), "> T".to_string()].into_iter().chain(lines.clone());
+    script(asked.chain(waiting))
+}
+
+/// From each unit to each, with a tare, while SIR, SR and a set SR run; and weights before and after.
+fn unit_moves() -> Script {
+    let pairs = UNITS.into_iter().flat_map(|from| UNITS.into_iter().map(move |to| (from, to)));
+    script(pairs.flat_map(|(from, to)| {
+        let typed = format!("> TA 0.25 {}", from.name());
+        let refused = format!("> TA 0.26 {}", to.name());
+        let threshold = format!("> SR 0.03 {}", from.name());
+        ["> SIR".to_string(), "> SR".to_string(), threshold].into_iter().flat_map(move |start| {
+            let steps = 30 * 10_000 * from.nanograms() / 1_000_000_000;
+            let near = [steps - 1, steps, steps + 1].map(|load| format!("s {}", load.min(219_999_999)));
+            let before = ["on".to_string(), "s 5000".to_string(), set_unit(from), typed.clone(), start];
+            let after = [set_unit(to), "> M21".to_string(), refused.clone(), "> TA".to_string(), "> @".to_string()];
+            let ends = ["> SI".to_string(), "> M21".to_string()];
+            let moved = before.into_iter().chain(near.clone()).chain(after[..4].to_vec());
+            moved.chain(near).chain(["u 1".to_string()]).chain(after[4..].to_vec()).chain(ends).collect::<Vec<_>>()
+        })
+    }))
+}
+
+/// One unit's decimals and step broken alone while another is in force, and while itself is.
+fn unit_limits(unit: Unit) -> Script {
+    let other = if unit == Unit::Gram { Unit::Carat } else { Unit::Gram };
+    let all = (0..9).chain([10, 255]).flat_map(|decimals| [0, 1, 2, 3, 5, 10, 255].map(|step| (decimals, step)));
+    let base = alone(Scale { unit, decimals: 0, step: 1 });
+    let numbers = ["1000000000 0 0 3", "99999999 0 0 3", "1000 0 0 3"].map(|numbers| format!("profile {numbers}"));
+    let each = all.flat_map(move |(decimals, step)| {
+        let set = format!("unit {} {decimals} {step}", unit.name());
+        let good = format!("unit {} 0 1", unit.name());
+        numbers.clone().into_iter().flat_map(move |numbers| {
+            [
+                numbers,
+                set.clone(),
+                "s 5".to_string(),
+                good.clone(),
+                "> M21".to_string(),
+                set.clone(),
+                "on".to_string(),
+                good.clone(),
+            ]
+        })
+    });
+    let each: Vec<String> = each.collect();
+    let of = |unit| started(&base, unit).into_iter().chain(each.clone());
+    script(of(other).chain(of(unit)))
+}
+
 // Lines.
 
 /// Every name of up to three letters that names are made of, when none has to wait.
 fn names() -> Script {
-    let letters: Vec<char> = "ACDIRSTWZ@012345s".chars().collect();
+    let letters: Vec<char> = "ACDIMRSTWZ@012345s".chars().collect();
     let longer = |names: &[String]| -> Vec<String> {
         names.iter().flat_map(|name| letters.iter().map(move |letter| format!("{name}{letter}"))).collect()
     };
@@ -311,7 +403,7 @@ fn patience() -> Script {
 }
 
 fn wait(w: u32, name: &str, samples: u32) -> Vec<String> {
-    let with = |w: u32| format!("profile 220000000 1000000 4400000 {w} g 4 1");
+    let with = |w: u32| format!("profile 220000000 1000000 4400000 {w}");
     let mut lines = vec![with(w), "on".to_string(), "u 7000".to_string(), format!("> {name}")];
     lines.extend((1..=samples).map(|n| format!("u {n}00")));
     lines.extend([1, samples, samples + 1, w].into_iter().flat_map(|w| [with(w), "> Q".to_string()]));
@@ -322,8 +414,8 @@ fn wait(w: u32, name: &str, samples: u32) -> Vec<String> {
 /// Every command in every room that is one off its answer, or near it.
 fn rooms() -> Script {
     let sized = COMMANDS.iter().flat_map(|(name, _)| {
-        let rooms = if *name == "I0" { 242..247 } else { 0..24 };
-        rooms.flat_map(move |room| [format!("room {room}"), format!("> {name}"), "room 256".to_string(), "b 0A".to_string()])
+        let rooms = if *name == "I0" { 256..261 } else { 0..24 };
+        rooms.flat_map(move |room| [format!("room {room}"), format!("> {name}"), "room 384".to_string(), "b 0A".to_string()])
     });
     script(["s 1000".to_string()].into_iter().chain(sized))
 }
@@ -331,7 +423,7 @@ fn rooms() -> Script {
 /// What each command and some refused lines do to a running SIR and SR, with nothing waiting and with T waiting.
 fn repetition() -> Script {
     let names = COMMANDS.iter().map(|(name, _)| *name);
-    let lines = names.chain(["SR 0.02 g", "SR 0 g", "SR ", "SI 1", "SIR 1", "Q"]);
+    let lines = names.chain(["SR 0.02 g", "SR 0 g", "SR ", "SI 1", "SIR 1", "M21 0 0", "M21 0 5", "M21 ", "Q"]);
     script(lines.flat_map(|line| {
         ["s 100", "u 300000000", "u -300000000"].into_iter().flat_map(move |first| {
             ["SIR", "SR", "SR 0.01 g"].into_iter().flat_map(move |start| repeated_then(first, start, line))
@@ -364,7 +456,8 @@ fn repeated_then(first: &str, start: &str, line: &str) -> Vec<String> {
 /// without a sample.
 fn display() -> Script {
     let names = COMMANDS.iter().map(|(name, _)| *name);
-    let others = ["D \"\"", "D \"ABC\"", "D \"123456789012345678901\"", "D \"", "TA 1 g", "TA 1 kg", "SR 1 g", "SR x", "Q", ""];
+    let others =
+        ["D \"\"", "D \"ABC\"", "D \"123456789012345678901\"", "D \"", "TA 1 g", "TA 1 kg", "SR 1 g", "SR x", "M21 0 5", "Q", ""];
     let displays = ["DW", "D \"\"", "D \"TEXT 1\""];
     script(names.chain(others).flat_map(|line| displays.into_iter().flat_map(move |display| shown_then(display, line))))
 }
@@ -374,7 +467,7 @@ fn shown_then(display: &str, line: &str) -> Vec<String> {
     let longer = format!("> {line} 1");
     let ways: [&[&str]; 8] = [
         &["s 100", &display, &sent],
-        &["s 100", &display, "room 0", &sent, "room 256", "b 0A"],
+        &["s 100", &display, "room 0", &sent, "room 384", "b 0A"],
         &["s 100", &display, &longer],
         &["s 100", &display, "f 53", &sent],
         &["u 100", &display, "> T", &sent, "u 200", "u 300", "u 400", "s 500"],
@@ -394,7 +487,7 @@ fn whole(bytes: &[u8], faulty: Option<usize>) -> String {
     format!("w{}", words.collect::<String>())
 }
 
-const LINES: &[u8] = b"DW\r\nTA 1 g\r\nS\rI\r\nTI\r\n\r\nSIR\r\nD \"A\"\r\nSR 1 g\r\n@\r\nQ\r\n";
+const LINES: &[u8] = b"DW\r\nTA 1 g\r\nS\rI\r\nTI\r\n\r\nSIR\r\nM21 0 5\r\nD \"A\"\r\nM21 0 0\r\nSR 1 g\r\n@\r\nQ\r\n";
 
 /// Some lines in two calls, cut at every place, the second call with whole buffers or single bytes.
 fn buffer_cuts() -> Script {
@@ -410,7 +503,7 @@ fn buffer_cuts() -> Script {
 /// when it has waited.
 fn buffer_rooms() -> Script {
     let sized = COMMANDS.iter().flat_map(|(name, _)| {
-        let rooms = if *name == "I0" { 242..274 } else { 0..48 };
+        let rooms = if *name == "I0" { 256..288 } else { 0..48 };
         rooms.flat_map(move |room| in_room(room, "s 1000", &format!("{name}\r\nQ\r\nI1\r\n")))
     });
     let waiting = ["S", "T", "Z", "SR"]
@@ -422,7 +515,7 @@ fn buffer_rooms() -> Script {
 /// After a power-on and a sample these lines in one call, then the LF that it may have stopped before.
 fn in_room(room: usize, sample: &str, lines: &str) -> [String; 6] {
     let sent = whole(lines.as_bytes(), None);
-    ["room 256".to_string(), "on".to_string(), sample.to_string(), format!("room {room}"), sent, "w 0A".to_string()]
+    ["room 384".to_string(), "on".to_string(), sample.to_string(), format!("room {room}"), sent, "w 0A".to_string()]
 }
 
 /// A faulty byte at every place of some lines, and around the places where marks are 128, 255 and 1 again.
@@ -452,7 +545,7 @@ fn buffer_refusals() -> Script {
     let buffers = ["w", "w 51 0D 0A", "w- 51", "w+ 51", "w+", full, long];
     let orders = profiles.into_iter().flat_map(move |profile| {
         [0, 3, 4, 4_096].into_iter().flat_map(move |room| {
-            let set = [format!("profile {profile} 3 g 4 1"), format!("room {room}")];
+            let set = [format!("profile {profile} 3"), format!("room {room}")];
             set.into_iter().chain(buffers.map(String::from))
         })
     });
@@ -461,7 +554,7 @@ fn buffer_refusals() -> Script {
 
 // Captures.
 
-const GOOD: [&[u8]; 12] = [
+const GOOD: [&[u8]; 18] = [
     b"S S    14.2561 g\r\n",
     b"S D -0.000001 ozt\r\n",
     b"TA A          0 GN\r\n",
@@ -474,13 +567,34 @@ const GOOD: [&[u8]; 12] = [
     b"I0 B 1 \"TAC\"\r\n",
     b"I1 A \"0\" \"2.30\" \"2.20\"\r\n",
     b"I4 A \"VA-0001\"\r\n",
+    b"S S       0.01 kg\r\n",
+    b"TA A       0.49 lb\r\n",
+    b"M21 A\r\n",
+    b"M21 A 0 5\r\n",
+    b"M21 A 0 11\r\n",
+    b"I0 A 2 \"M21\"\r\n",
 ];
 
 /// Each byte of good lines set to each value, left out and doubled; and every name with every status.
 pub fn captures() -> Vec<Script> {
     let mut captures: Vec<Script> = GOOD.iter().map(|line| damaged(line)).collect();
-    captures.push(statuses());
+    captures.extend([statuses(), units()]);
     captures
+}
+
+/// What M21 may answer with numbers of up to three digits, and weights in names of up to three letters.
+fn units() -> Script {
+    let numbers = (0..=300).map(|code| code.to_string()).chain((0..=30).map(|code| format!("{code:02}")));
+    let codes = numbers
+        .flat_map(|code| ["A 0", "A 1", "A 2", "A 00", "B 0", "I 0", "L 0", "A"].map(|before| format!("M21 {before} {code}")));
+    let letters = "gmkctlbozdwGNLB";
+    let one: Vec<String> = letters.chars().map(String::from).collect();
+    let longer = |names: &[String]| -> Vec<String> {
+        names.iter().flat_map(|name| letters.chars().map(move |letter| format!("{name}{letter}"))).collect()
+    };
+    let (two, three) = (longer(&one), longer(&longer(&one)));
+    let weights = [one, two, three].into_iter().flatten().map(|name| format!("S S     1.0000 {name}"));
+    codes.chain(weights).map(|line| format!("{line}\r\n").into_bytes()).collect()
 }
 
 fn damaged(line: &[u8]) -> Script {

@@ -2,7 +2,7 @@
 
 use crate::faults::Fault;
 use crate::profile::Profile;
-use crate::weight::{ten_to, typed_number, Scale};
+use crate::weight::{ten_to, typed_number, Scale, Unit};
 
 /// Femtograms in a microgram.
 pub const MICROGRAM: i128 = 1_000_000_000;
@@ -21,6 +21,8 @@ pub struct Tally {
     zero: i128,
     tare: i128,
     typed: bool,
+    /// The unit in force: g, and then what the last `M21 0 code` answered `M21 A` set.
+    unit: Unit,
     /// Switched on only by the mutation check.
     fault: Option<Fault>,
 }
@@ -31,7 +33,17 @@ impl Tally {
     }
 
     pub fn faulty(profile: &Profile, fault: Option<Fault>) -> Tally {
-        Tally { profile: profile.clone(), line: vec![], load: None, zero: 0, tare: 0, typed: false, fault }
+        Tally { profile: profile.clone(), line: vec![], load: None, zero: 0, tare: 0, typed: false, unit: Unit::Gram, fault }
+    }
+
+    /// What weights are read with: the unit in force, and its decimals and step.
+    pub fn scale(&self) -> Scale {
+        let grams = self.profile.scale(Unit::Gram);
+        match self.fault {
+            Some(Fault::TallyReadsFirstUnit) => grams,
+            Some(Fault::TallyStepOfGrams) => Scale { unit: self.unit, ..grams },
+            _ => self.profile.scale(self.unit),
+        }
     }
 
     fn has(&self, fault: Fault) -> bool {
@@ -52,7 +64,8 @@ impl Tally {
         taken.iter().try_for_each(|(call, answer)| self.take(*call, 0, answer))
     }
 
-    /// Takes lines and stable loads, with the answer to the last byte or the sample of each.
+    /// Takes lines and stable loads, with the answer to the last byte or the sample of each. A `!` before a line is no part of it, and
+    /// marks its first byte faulty.
     pub fn take_lines(&mut self, history: &[(&str, &str)]) -> Result<(), String> {
         for (line, answer) in history {
             let answer = format!("{answer}\r\n");
@@ -60,19 +73,26 @@ impl Tally {
                 self.take(Call::Sample { load, stable: true }, 0, answer.as_bytes())?;
                 continue;
             }
-            for byte in format!("{line}\r").bytes() {
-                self.take(Call::Byte { byte, good: true }, 0, b"")?;
+            let (line, faulty) = line.strip_prefix('!').map_or((*line, false), |line| (line, true));
+            for (at, byte) in format!("{line}\r").bytes().enumerate() {
+                self.take(Call::Byte { byte, good: at > 0 || !faulty }, 0, b"")?;
             }
             self.take(Call::Byte { byte: b'\n', good: true }, 0, answer.as_bytes())?;
         }
         Ok(())
     }
 
-    /// Line, load, zero and tare after a call that is not refused; gives the line that it ended, without its CR LF.
+    /// Line, load, zero, tare and unit after a call that is not refused; gives the line that it ended, without its CR LF.
     pub fn follow(&mut self, call: Call, answer: &[u8]) -> Result<Option<Vec<(u8, bool)>>, String> {
         let ended = self.join(call);
         if ended.as_deref() == Some(&[(b'@', true)]) {
             self.set_tare(0, false);
+            if self.has(Fault::TallyForgetsAtReset) {
+                self.unit = Unit::Gram;
+            }
+        }
+        if let Some(unit) = ended.as_deref().and_then(|line| self.unit_set(line, answer)) {
+            self.unit = unit;
         }
         self.grant(answer, ended.as_deref())?;
         Ok(ended)
@@ -107,6 +127,22 @@ impl Tally {
         self.typed = (typed && !self.has(Fault::TallyForgetsTyped)) || (self.typed && self.has(Fault::TallyKeepsTyped));
     }
 
+    /// The unit that a line sets by its answer.
+    fn unit_set(&self, line: &[(u8, bool)], answer: &[u8]) -> Option<Unit> {
+        let good = line.iter().all(|(_, good)| *good) || self.has(Fault::TallySetsByFaultyLine);
+        let text: Vec<u8> = line.iter().map(|(byte, _)| *byte).collect();
+        let granted = match self.fault {
+            Some(Fault::TallySetsAtWrong) if answer == b"M21 L\r\n" => true,
+            Some(Fault::TallySetsAtBusy) if answer == b"M21 I\r\n" => true,
+            Some(Fault::TallySetsAtQuery) if answer.starts_with(b"M21 A 0 ") => true,
+            Some(Fault::TallySetsOnce) if self.unit != Unit::Gram => false,
+            _ => answer == b"M21 A\r\n",
+        };
+        let code = text.strip_prefix(b"M21 0 ").filter(|_| good && granted)?;
+        let padded = || Unit::coded(code.strip_prefix(b"0")?);
+        Unit::coded(code).or_else(|| padded().filter(|_| self.has(Fault::TallyReadsAnyCode)))
+    }
+
     fn latest(&self) -> Result<i128, String> {
         self.load.ok_or_else(|| "an answer needs a load before one came".to_string())
     }
@@ -134,7 +170,10 @@ impl Tally {
     fn typed_tare(&self, line: &[u8]) -> Option<i128> {
         let number = line.strip_prefix(b"TA ")?.split(|&byte| byte == b' ').next()?;
         let (digits, decimals) = typed_number(number, None)?;
-        let scale = self.profile.scale;
+        let scale = match self.fault {
+            Some(Fault::TallyTypedToGramStep) => Scale { unit: self.unit, ..self.profile.scale(Unit::Gram) },
+            _ => self.scale(),
+        };
         let typed = digits * ten_to(6 - decimals) * scale.unit.nanograms();
         let last_place = Scale { step: 1, ..scale };
         let step = display_step(if self.has(Fault::TallyStepIgnored) { last_place } else { scale });
@@ -157,9 +196,12 @@ impl Tally {
         } else {
             return Ok(());
         };
+        if !answer.ends_with(format!(" {}\r\n", self.scale().unit.name()).as_bytes()) {
+            return Err(format!("{:?} is in force, {} was told", self.scale().unit, answer.escape_ascii()));
+        }
         let number = self.told(answer).ok_or("a weight answer without a number")?;
         let half = if self.has(Fault::TallyAllowsMicrogram) { MICROGRAM } else { MICROGRAM / 2 };
-        let allowed = display_step(self.profile.scale) + if self.typed { 2 * half } else { 0 };
+        let allowed = display_step(self.scale()) + if self.typed { 2 * half } else { 0 };
         if 2 * (number - exact).abs() > allowed {
             return Err(format!("{number} fg told, {exact} fg exact, twice the difference may be {allowed}"));
         }
@@ -176,7 +218,7 @@ impl Tally {
             None => (1, &text[..]),
         };
         let (digits, decimals) = typed_number(size, None)?;
-        Some(sign * digits * ten_to(6 - decimals) * self.profile.scale.unit.nanograms())
+        Some(sign * digits * ten_to(6 - decimals) * self.scale().unit.nanograms())
     }
 }
 

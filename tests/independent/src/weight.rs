@@ -2,8 +2,10 @@
 
 use crate::faults::Fault;
 
-#[derive(Clone, Copy, Debug, PartialEq, Eq)]
+/// Document 01's seven in its order, then the two of document 02, No. 5.
+#[derive(Clone, Copy, Debug, Default, PartialEq, Eq)]
 pub enum Unit {
+    #[default]
     Gram,
     Milligram,
     Carat,
@@ -11,10 +13,21 @@ pub enum Unit {
     TroyOunce,
     Grain,
     Pennyweight,
+    Kilogram,
+    Pound,
 }
 
-pub const UNITS: [Unit; 7] =
-    [Unit::Gram, Unit::Milligram, Unit::Carat, Unit::Ounce, Unit::TroyOunce, Unit::Grain, Unit::Pennyweight];
+pub const UNITS: [Unit; 9] = [
+    Unit::Gram,
+    Unit::Milligram,
+    Unit::Carat,
+    Unit::Ounce,
+    Unit::TroyOunce,
+    Unit::Grain,
+    Unit::Pennyweight,
+    Unit::Kilogram,
+    Unit::Pound,
+];
 
 impl Unit {
     pub fn name(self) -> &'static str {
@@ -26,7 +39,34 @@ impl Unit {
             Unit::TroyOunce => "ozt",
             Unit::Grain => "GN",
             Unit::Pennyweight => "dwt",
+            Unit::Kilogram => "kg",
+            Unit::Pound => "lb",
         }
+    }
+
+    /// The code of M21, as source document 003 numbers its units.
+    pub fn code(self) -> &'static str {
+        match self {
+            Unit::Gram => "0",
+            Unit::Kilogram => "1",
+            Unit::Milligram => "3",
+            Unit::Carat => "5",
+            Unit::Pound => "7",
+            Unit::Ounce => "8",
+            Unit::TroyOunce => "9",
+            Unit::Grain => "10",
+            Unit::Pennyweight => "11",
+        }
+    }
+
+    /// The code as it is written, and no other way.
+    pub fn coded(code: &[u8]) -> Option<Unit> {
+        UNITS.into_iter().find(|unit| unit.code().as_bytes() == code)
+    }
+
+    /// The place among the nine, from 0.
+    pub fn index(self) -> usize {
+        self as usize
     }
 
     pub fn nanograms(self) -> i128 {
@@ -38,6 +78,8 @@ impl Unit {
             Unit::TroyOunce => 31_103_476_800,
             Unit::Grain => 64_798_910,
             Unit::Pennyweight => 1_555_173_840,
+            Unit::Kilogram => 1_000_000_000_000,
+            Unit::Pound => 453_592_370_000,
         }
     }
 
@@ -51,6 +93,8 @@ impl Unit {
             (Unit::Grain, Some(Fault::GrainCutShort)) => 64_798_900,
             (Unit::TroyOunce, Some(Fault::TroyOunceCutShort)) => 31_103_476_000,
             (Unit::Pennyweight, Some(Fault::PennyweightCutShort)) => 1_555_173_000,
+            (Unit::Kilogram, Some(Fault::KilogramTenfold)) => 10_000_000_000_000,
+            (Unit::Pound, Some(Fault::PoundCutShort)) => 453_592_000_000,
             _ => self.nanograms(),
         }
     }
@@ -58,6 +102,13 @@ impl Unit {
 
 pub fn ten_to(power: u32) -> i128 {
     10i128.pow(power)
+}
+
+/// How finely a unit is printed.
+#[derive(Clone, Copy, Debug, PartialEq, Eq)]
+pub struct Places {
+    pub decimals: u8,
+    pub step: u8,
 }
 
 /// What a weight is printed in.
@@ -81,10 +132,10 @@ pub fn last_places(net: i128, scale: Scale, fault: Option<Fault>) -> i128 {
 /// The whole number nearest to a / b, both not negative, the larger one at a tie.
 fn nearest(a: i128, b: i128, fault: Option<Fault>) -> i128 {
     let number = (2 * a + b) / (2 * b);
-    let tie = 2 * a % (2 * b) == b;
+    let tie = || 2 * a % (2 * b) == b;
     match fault {
-        Some(Fault::TieTowardsZero) if tie => number - 1,
-        Some(Fault::TieToEven) if tie => number - number % 2,
+        Some(Fault::TieTowardsZero) if tie() => number - 1,
+        Some(Fault::TieToEven) if tie() => number - number % 2,
         Some(Fault::RoundedTowardsZero) => a / b,
         _ => number,
     }
@@ -107,10 +158,17 @@ pub fn printed(net: i128, scale: Scale, fault: Option<Fault>) -> String {
     number_text(places, scale.decimals, minus)
 }
 
+/// Whether that is ten characters or fewer. Up to seven decimals, the zero before the point and a minus never are more.
+pub fn fits(net: i128, scale: Scale, fault: Option<Fault>) -> bool {
+    let places = last_places(net, scale, fault);
+    let digits = 10 - u32::from(scale.decimals > 0) - u32::from(places < 0);
+    places.abs() < ten_to(digits)
+}
+
 /// The ten characters and the unit.
 pub fn weight_text(net: i128, scale: Scale, fault: Option<Fault>) -> String {
     let number = printed(net, scale, fault);
-    let unit = scale.unit.name();
+    let unit = if fault == Some(Fault::UnitTextOfGrams) { "g" } else { scale.unit.name() };
     if fault == Some(Fault::LeftAligned) {
         return format!("{number:<10} {unit}");
     }

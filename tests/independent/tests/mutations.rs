@@ -1,11 +1,10 @@
 //! The mutation check: each small fault, switched on in this implementation, has to be noticed by the comparison.
 
-use independent::cases::histories;
+use independent::cases::{histories, History};
 use independent::compare::{capture_bytes, difference, script_bytes, shown, Judge, Script};
 use independent::decode::{decode, decode_with};
 use independent::faults::{Fault, OF_THE_MODULE, OF_THE_READER, OF_THE_TALLY};
 use independent::module::Module;
-use independent::profile::Profile;
 use independent::random::{capture, script, Rng, MOST_UNSEEN};
 use independent::reader::Reader;
 use independent::replay::{replay, replay_with, Replay};
@@ -47,6 +46,37 @@ const JUDGED: &[Fault] = &[
     Fault::TypedHeldToCapacity,
     Fault::TypedCutTo32Bits,
     Fault::QueryClearsTare,
+    Fault::KilogramTenfold,
+    Fault::PoundCutShort,
+    Fault::UnitTextOfGrams,
+    Fault::PlacesOfGrams,
+    Fault::UnitByIndex,
+    Fault::MicrogramsTakenForCarats,
+    Fault::TwentyTakenForPounds,
+    Fault::OunceCodesSwapped,
+    Fault::OtherCodeSetsGrams,
+    Fault::CodeInOneByte,
+    Fault::CodeIn32Bits,
+    Fault::CodePadded,
+    Fault::CodeSigned,
+    Fault::CodeAfterTwoSpaces,
+    Fault::CodeBeforeSpace,
+    Fault::HostPadded,
+    Fault::HostLeftOut,
+    Fault::DisplayUnitSet,
+    Fault::BusyUnitSet,
+    Fault::WrongUnitSetsGrams,
+    Fault::UnitQuerySetsGrams,
+    Fault::UnitNotSet,
+    Fault::UnitSetInShortRoom,
+    Fault::ResetSetsGrams,
+    Fault::PowerOnKeepsUnit,
+    Fault::UnitClearsTare,
+    Fault::UnitClearsZero,
+    Fault::UnitConvertsTare,
+    Fault::UnitRoundsTare,
+    Fault::TypedInGrams,
+    Fault::TypedToGramStep,
 ];
 
 /// Faults of send on change that answers show, so that its follower alone has to notice them. A net that is kept at `S D` is none: the
@@ -106,6 +136,15 @@ const FOLLOWED: &[Fault] = &[
     Fault::ThresholdAboveCapacityTaken,
     Fault::ThresholdRoundedToStep,
     Fault::LoneSpaceTaken,
+    Fault::UnitConvertsThreshold,
+    Fault::UnitConvertsLastNet,
+    Fault::UnitDropsOwed,
+    Fault::UnitEndsSir,
+    Fault::UnitEndsSr,
+    Fault::SrRebasedByUnit,
+    Fault::ThresholdInGrams,
+    Fault::ThirtyStepsOfGrams,
+    Fault::ThirtyStepsOfStart,
 ];
 
 /// Faults of typed tares, which the sweep of them has to notice too.
@@ -129,8 +168,18 @@ const OF_TYPED_TARES: &[Fault] = &[
 ];
 
 /// Faults of the tally for which it rejects answers of the good module; the others let more pass, as constructed histories show.
-const REJECTING: &[Fault] =
-    &[Fault::TallyReadsUnrounded, Fault::TallyTieDownwards, Fault::TallyStepIgnored, Fault::TallyForgetsTyped];
+const REJECTING: &[Fault] = &[
+    Fault::TallyReadsUnrounded,
+    Fault::TallyTieDownwards,
+    Fault::TallyStepIgnored,
+    Fault::TallyForgetsTyped,
+    Fault::TallyReadsFirstUnit,
+    Fault::TallyStepOfGrams,
+    Fault::TallyTypedToGramStep,
+    Fault::TallySetsAtBusy,
+    Fault::TallyForgetsAtReset,
+    Fault::TallySetsOnce,
+];
 
 /// Faults of the whole-buffer call that answers, refusals and bytes taken show, so that its bytes taken singly have to notice them.
 const TAKEN_APART: &[Fault] = &[
@@ -198,6 +247,74 @@ const SILENT: &[Fault] = &[
     Fault::FaultSetsOver,
     Fault::FaultHidesOver,
     Fault::ControlSetsOver,
+    Fault::UnitShowsWeight,
+];
+
+/// Faults of units by command, which the stored cases and the sweeps of them have to notice too.
+const OF_UNITS: &[Fault] = &[
+    Fault::KilogramTenfold,
+    Fault::PoundCutShort,
+    Fault::UnitTextOfGrams,
+    Fault::PlacesOfGrams,
+    Fault::OnlyInForceFits,
+    Fault::OnlyInForceScaled,
+    Fault::NewUnitsSevenDecimals,
+    Fault::NewUnitsStepOfThree,
+    Fault::UnitByIndex,
+    Fault::MicrogramsTakenForCarats,
+    Fault::TwentyTakenForPounds,
+    Fault::OunceCodesSwapped,
+    Fault::NewUnitsRefused,
+    Fault::OtherCodeSetsGrams,
+    Fault::CodeInOneByte,
+    Fault::CodeIn32Bits,
+    Fault::CodePadded,
+    Fault::CodeSigned,
+    Fault::CodeAfterTwoSpaces,
+    Fault::CodeBeforeSpace,
+    Fault::HostPadded,
+    Fault::HostLeftOut,
+    Fault::DisplayUnitSet,
+    Fault::LoneSpaceQueriesUnit,
+    Fault::LoneHostQueriesUnit,
+    Fault::UnitTakesNoParameters,
+    Fault::UnitAgainRefused,
+    Fault::UnitSetWhileWaiting,
+    Fault::UnitQueriedWhileWaiting,
+    Fault::WrongUnitBeforeWaiting,
+    Fault::BusyUnitSet,
+    Fault::UnitNeedsSample,
+    Fault::WrongUnitSetsGrams,
+    Fault::UnitToldByIndex,
+    Fault::UnitToldAsDisplays,
+    Fault::GramsTold,
+    Fault::CodeToldPadded,
+    Fault::UnitToldB,
+    Fault::UnitQuerySetsGrams,
+    Fault::UnitNotSet,
+    Fault::UnitSendsReading,
+    Fault::UnitSetInShortRoom,
+    Fault::ResetSetsGrams,
+    Fault::PowerOnKeepsUnit,
+    Fault::UnitClearsTare,
+    Fault::UnitClearsZero,
+    Fault::UnitConvertsTare,
+    Fault::UnitRoundsTare,
+    Fault::UnitConvertsThreshold,
+    Fault::UnitConvertsLastNet,
+    Fault::UnitDropsOwed,
+    Fault::UnitEndsSir,
+    Fault::UnitEndsSr,
+    Fault::SrRebasedByUnit,
+    Fault::UnitShowsWeight,
+    Fault::UnitListedAtLevelOne,
+    Fault::UnitUnlisted,
+    Fault::TiListedLast,
+    Fault::TypedInGrams,
+    Fault::TypedToGramStep,
+    Fault::ThresholdInGrams,
+    Fault::ThirtyStepsOfGrams,
+    Fault::ThirtyStepsOfStart,
 ];
 
 fn scripts(count: usize) -> Vec<Script> {
@@ -233,6 +350,20 @@ fn the_sweep_notices_every_fault_of_typed_tares() {
         let faulty = |input: &[u8]| replay_with(Module { fault: Some(fault) }, input, &mut |_| {});
         assert!(inputs.iter().any(|input| faulty(input) != replay(input)), "{fault:?}");
     }
+}
+
+#[test]
+fn the_cases_notice_every_fault_of_units() {
+    let cases = independent::cases::all();
+    let unnoticed: Vec<Fault> = OF_UNITS
+        .iter()
+        .copied()
+        .filter(|&fault| {
+            let faulty = |input: &[u8]| replay_with(Module { fault: Some(fault) }, input, &mut |_| {});
+            cases.iter().all(|case| faulty(case.script.as_bytes()) == case.prints.as_bytes())
+        })
+        .collect();
+    assert!(unnoticed.is_empty(), "not noticed: {unnoticed:?}");
 }
 
 #[test]
@@ -327,8 +458,8 @@ fn the_tally_notices_wrong_weights() {
 #[test]
 fn every_fault_of_the_tally_is_noticed() {
     for &fault in OF_THE_TALLY {
-        let accepts = |scale, calls| Tally::faulty(&Profile { scale, ..Profile::a() }, Some(fault)).take_lines(calls).is_ok();
-        assert!(histories().iter().any(|one| accepts(one.scale, one.calls) != one.accepted), "{fault:?}");
+        let accepts = |one: &History| Tally::faulty(&one.profile(), Some(fault)).take_lines(&one.calls).is_ok();
+        assert!(histories().iter().any(|one| accepts(one) != one.accepted), "{fault:?}");
     }
     let inputs: Vec<Vec<u8>> = scripts(JUDGED_SCRIPTS).iter().map(|one| without_state(one)).collect();
     for &fault in REJECTING {

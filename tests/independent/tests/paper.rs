@@ -1,7 +1,7 @@
 //! The paper's cases on this implementation, and constructed states, readings and histories.
 
 use independent::buffer::{Taken, MOST_BYTES};
-use independent::cases::{self, run, History};
+use independent::cases::{self, run};
 use independent::compare::shown;
 use independent::decode::decode;
 use independent::faults::Fault;
@@ -15,7 +15,9 @@ use independent::sent_on_change::Follower;
 use independent::singly::Singly;
 use independent::sweeps;
 use independent::tally::{Call, Tally};
-use independent::weight::{last_places, number_text, printed, ten_to, typed_number, typed_tare, Scale, Unit};
+use independent::weight::{
+    fits, last_places, number_text, printed, ten_to, typed_number, typed_tare, weight_text, Scale, Unit, UNITS,
+};
 use std::cell::OnceCell;
 
 const MODULE: Module = Module { fault: None };
@@ -29,9 +31,9 @@ fn bench_cases_and_worked_examples() {
 }
 
 #[test]
-fn the_list_has_244_bytes() {
+fn the_list_has_258_bytes() {
     let told = replay(b"on\n> I0\n");
-    assert_eq!(told.len(), 244 + b"I4 A \"VA-0001\"\r\n".len());
+    assert_eq!(told.len(), 258 + b"I4 A \"VA-0001\"\r\n".len());
 }
 
 #[test]
@@ -53,7 +55,7 @@ fn calls_before_power_on() {
 
 #[test]
 fn a_refused_power_on_gives_the_state_back() {
-    let script = b"on\ns 5000\n> T\nprofile 0 0 0 0 g 0 0\non\nprofile 220000000 1000000 4400000 3 g 4 1\n> TA\n";
+    let script = b"on\ns 5000\n> T\nprofile 0 0 0 0\non\nprofile 220000000 1000000 4400000 3\n> TA\n";
     let told = replay(script);
     assert!(told.ends_with(b"refused 1\r\nTA A     0.0050 g\r\n"), "{}", shown(&told));
 }
@@ -128,7 +130,7 @@ fn state_after(lines: &[&str]) -> String {
 #[test]
 fn the_state_after_power_on() {
     let told = replay(b"on\nstate\nstate");
-    let line = "state zero 0 tare 0 sample none waits none repeats no shows weight line 0\r\n";
+    let line = "state zero 0 tare 0 sample none waits none repeats no shows weight line 0 unit g\r\n";
     assert_eq!(shown(&told), shown(format!("I4 A \"VA-0001\"\r\n{line}{line}").as_bytes()));
 }
 
@@ -137,11 +139,11 @@ fn the_state_is_no_call_and_one_word() {
     assert_eq!(replay(b"state\nroom 15\non\nstate\n"), b"?\r\nrefused 3\r\n?\r\n");
     let odd = b"on\nstate \n state\nState\nstate x\nstates\nstat\nstate\r\nSTATE\nstate 1\n";
     assert_eq!(replay(odd), [&b"I4 A \"VA-0001\"\r\n"[..], &b"?\r\n".repeat(9)].concat());
-    let told = replay(b"on\nb 53\nprofile 0 0 0 0 g 0 0\nroom 0\nstate\n");
-    assert!(told.ends_with(b"\"\r\nstate zero 0 tare 0 sample none waits none repeats no shows weight line 1\r\n"));
+    let told = replay(b"on\nb 53\nprofile 0 0 0 0\nunit g 0 0\nroom 0\nstate\n");
+    assert!(told.ends_with(b"\"\r\nstate zero 0 tare 0 sample none waits none repeats no shows weight line 1 unit g\r\n"));
 }
 
-/// Each word of each field once.
+/// Each word of each field once; the unit, which is the last, is g where it is not named.
 #[test]
 fn the_words_of_the_state() {
     let full = &format!("b{}", " 53".repeat(64))[..];
@@ -188,9 +190,22 @@ fn the_words_of_the_state() {
         (&[full, "f 53"], "zero 0 tare 0 sample none waits none repeats no shows weight line 64 over faulty"),
         (&[full, "b 53", "f 53", "b 0D"], "zero 0 tare 0 sample none waits none repeats no shows weight line 64 over faulty cr"),
         (&[full, "b 53", "f 53", "b 0D 0A"], "zero 0 tare 0 sample none waits none repeats no shows weight line 0"),
+        (&["> M21 0 0"], "zero 0 tare 0 sample none waits none repeats no shows weight line 0 unit g"),
+        (&["> M21 0 3"], "zero 0 tare 0 sample none waits none repeats no shows weight line 0 unit mg"),
+        (&["> M21 0 5"], "zero 0 tare 0 sample none waits none repeats no shows weight line 0 unit ct"),
+        (&["> M21 0 8"], "zero 0 tare 0 sample none waits none repeats no shows weight line 0 unit oz"),
+        (&["> M21 0 9"], "zero 0 tare 0 sample none waits none repeats no shows weight line 0 unit ozt"),
+        (&["> M21 0 10"], "zero 0 tare 0 sample none waits none repeats no shows weight line 0 unit GN"),
+        (&["> M21 0 11"], "zero 0 tare 0 sample none waits none repeats no shows weight line 0 unit dwt"),
+        (&["> M21 0 1"], "zero 0 tare 0 sample none waits none repeats no shows weight line 0 unit kg"),
+        (
+            &["> M21 0 7", full, "f 53", "b 0D"],
+            "zero 0 tare 0 sample none waits none repeats no shows weight line 64 over faulty cr unit lb",
+        ),
     ];
     for (lines, words) in cases {
-        assert_eq!(state_after(lines), format!("state {words}"), "{lines:?}");
+        let unit = if words.contains(" unit ") { "" } else { " unit g" };
+        assert_eq!(state_after(lines), format!("state {words}{unit}"), "{lines:?}");
     }
 }
 
@@ -199,10 +214,10 @@ fn the_words_of_the_state() {
 /// The refusal of a byte and of a sample call, which have to leave state and buffer.
 fn refusal_of(profile: &Profile, state: &State) -> u8 {
     let (mut one, mut other) = (state.clone(), state.clone());
-    let mut buffer = [7; 256];
+    let mut buffer = [7; 384];
     let byte = MODULE.byte(profile, &mut one, b'S', 0, &mut buffer);
-    assert_eq!((buffer, byte.n), ([7; 256], 0));
-    let sample = MODULE.sample(profile, &mut other, Sample { load: 0, stable: true }, &mut [7; 256]);
+    assert_eq!((buffer, byte.n), ([7; 384], 0));
+    let sample = MODULE.sample(profile, &mut other, Sample { load: 0, stable: true }, &mut [7; 384]);
     assert_eq!(byte.refusal, sample.refusal);
     assert!(byte.refusal == 0 || (&one == state && &other == state));
     // A whole buffer has the same one, also if it is empty; 5 comes after.
@@ -212,7 +227,7 @@ fn refusal_of(profile: &Profile, state: &State) -> u8 {
         let taken = MODULE.buffer(profile, &mut given, &vec![b'S'; bytes], &vec![0; marks], &mut buffer);
         let refusal = if byte.refusal == 0 && (bytes != marks || bytes > MOST_BYTES) { 5 } else { byte.refusal };
         assert_eq!(taken, Taken { refusal, n: 0, taken: if refusal == 0 { bytes } else { 0 } });
-        assert!(buffer == [7; 256] && (taken.taken > 0 || &given == state));
+        assert!(buffer == [7; 384] && (taken.taken > 0 || &given == state));
     }
     byte.refusal
 }
@@ -292,6 +307,80 @@ fn constructed_states_of_sr() {
     ]);
 }
 
+// Units.
+
+#[test]
+fn the_units_and_their_codes() {
+    let told = UNITS.map(|unit| (unit.index(), unit.name(), unit.code(), unit.nanograms()));
+    let nine = [
+        (0, "g", "0", 1_000_000_000),
+        (1, "mg", "3", 1_000_000),
+        (2, "ct", "5", 200_000_000),
+        (3, "oz", "8", 28_349_523_125),
+        (4, "ozt", "9", 31_103_476_800),
+        (5, "GN", "10", 64_798_910),
+        (6, "dwt", "11", 1_555_173_840),
+        (7, "kg", "1", 1_000_000_000_000),
+        (8, "lb", "7", 453_592_370_000),
+    ];
+    assert_eq!(told, nine);
+    for code in 0..10_000 {
+        let unit = Unit::coded(code.to_string().as_bytes());
+        assert_eq!(unit.map(Unit::code), nine.iter().map(|(_, _, code, _)| *code).find(|known| *known == code.to_string()));
+    }
+}
+
+/// Every state and every unit: a set unit answers `M21 A` and changes nothing else; a query changes nothing at all.
+#[test]
+fn a_unit_moves_nothing_else() {
+    let fine = State { latest: Some(Sample { load: 1, stable: false }), zero: -7, tare: 9, ..State::default() };
+    let memory = OnChange { last: -9, threshold: Some(4), owed: true, out: true };
+    let states = [
+        State::default(),
+        fine.clone(),
+        State { shown: Some(b"A".to_vec()), ..fine.clone() },
+        State { repetition: Repetition::Sir, ..fine.clone() },
+        State { repetition: Repetition::Sr(memory), ..fine.clone() },
+        State { waiting: Some(Wait { name: "T", unstable: 2, threshold: None }), ..fine.clone() },
+    ];
+    let (mut room, bytes) = ([0; 384], |line: String| format!("{line}\r\n").into_bytes());
+    for (given, from) in states.iter().flat_map(|state| UNITS.map(|from| (State { unit: from, ..state.clone() }, from))) {
+        let mut taken = |line: String| {
+            let (mut state, line) = (given.clone(), bytes(line));
+            let taken = MODULE.buffer(&Profile::a(), &mut state, &line, &vec![0; line.len()], &mut room);
+            assert_eq!((taken.refusal, taken.taken), (0, line.len()));
+            (String::from_utf8_lossy(&room[..taken.n]).into_owned(), state)
+        };
+        let waits = given.waiting.is_some();
+        let asked = if waits { "M21 I\r\n".to_string() } else { format!("M21 A 0 {}\r\n", from.code()) };
+        assert_eq!(taken("M21".to_string()), (asked, given.clone()));
+        for to in UNITS {
+            let set = if waits { ("M21 I\r\n", given.clone()) } else { ("M21 A\r\n", State { unit: to, ..given.clone() }) };
+            let (answer, state) = taken(format!("M21 0 {}", to.code()));
+            assert_eq!((answer.as_str(), state), set);
+        }
+        let wrong = if waits { "M21 I\r\n" } else { "M21 L\r\n" };
+        assert_eq!(taken("M21 0 2".to_string()), (wrong.to_string(), given.clone()));
+    }
+}
+
+/// One unit's decimals and step broken alone refuse the profile whichever unit is in force, at power-on and at every call.
+#[test]
+fn each_unit_is_tested_alone() {
+    for scale in sweeps::scales() {
+        let profile = Profile { capacity: 1_000, margin: 9, zeroing: 9, ..Profile::a() }.with_scale(scale);
+        let Scale { unit, decimals, step } = scale;
+        let fine = i128::from(step) * unit.nanograms() >= 1000 * ten_to(decimals.into());
+        let good = decimals <= 6 && [1, 2, 5].contains(&step) && fine;
+        for in_force in UNITS {
+            let state = State { unit: in_force, ..State::default() };
+            assert_eq!(refusal_of(&profile, &state), u8::from(!good), "{scale:?} {in_force:?}");
+        }
+        let on = MODULE.power_on(&profile, &mut State::default(), &mut [0; 384]).refusal;
+        assert_eq!(on, u8::from(!good), "{scale:?}");
+    }
+}
+
 // Whole buffers.
 
 /// The call on a state that it may change, with as many good marks, in a room of sevens; gives the room too.
@@ -339,7 +428,7 @@ fn rooms_of_a_whole_buffer() {
         assert_eq!(taken, Taken { refusal: 0, n: 5 * answers, taken: bytes }, "room {room}");
         assert_eq!(told, [&b"S I\r\n".repeat(answers)[..], &vec![7; room - 5 * answers]].concat());
     }
-    for (room, taken) in [(243, (0, 3)), (244, (244, 6)), (247, (244, 6)), (248, (248, 7))] {
+    for (room, taken) in [(257, (0, 3)), (258, (258, 6)), (261, (258, 6)), (262, (262, 7))] {
         let told = taken_from(&mut State::default(), b"I0\r\nQ\r\n", room).0;
         assert_eq!((told.refusal, (told.n, told.taken)), (0, taken), "room {room}");
     }
@@ -348,22 +437,22 @@ fn rooms_of_a_whole_buffer() {
 /// Cut in two anywhere, and stopped by any room and then sent on, a buffer gives the same answers and the same end.
 #[test]
 fn a_buffer_in_pieces() {
-    let bytes = b"DW\r\nS\rI\nD \"A\"\r\nTA 1 g\r\n\r\nSI\r\nI1\r\nSR\r\n@ \r\nSI\r\n@\r\nQ";
+    let bytes = b"DW\r\nS\rI\nD \"A\"\r\nTA 1 g\r\nM21 0 5\r\nM21\r\n\r\nSI\r\nI1\r\nSR\r\n@ \r\nSI\r\n@\r\nQ";
     let started = State { latest: Some(Sample { load: 7, stable: false }), ..State::default() };
     let mut ended = started.clone();
-    let (whole, answers) = taken_from(&mut ended, bytes, 256);
+    let (whole, answers) = taken_from(&mut ended, bytes, 384);
     assert_eq!(whole.taken, bytes.len());
     for cut in 0..=bytes.len() {
         let mut state = started.clone();
-        let (first, one) = taken_from(&mut state, &bytes[..cut], 256);
-        let (second, other) = taken_from(&mut state, &bytes[cut..], 256);
+        let (first, one) = taken_from(&mut state, &bytes[..cut], 384);
+        let (second, other) = taken_from(&mut state, &bytes[cut..], 384);
         assert_eq!([&one[..first.n], &other[..second.n]].concat(), &answers[..whole.n], "cut at {cut}");
         assert_eq!(state, ended, "cut at {cut}");
     }
     for room in 0..=whole.n {
         let mut state = started.clone();
         let (first, one) = taken_from(&mut state, bytes, room);
-        let (second, other) = taken_from(&mut state, &bytes[first.taken..], 256);
+        let (second, other) = taken_from(&mut state, &bytes[first.taken..], 384);
         assert_eq!([&one[..first.n], &other[..second.n]].concat(), &answers[..whole.n], "room {room}");
         assert_eq!((first.taken + second.taken, &state), (bytes.len(), &ended), "room {room}");
     }
@@ -427,7 +516,7 @@ fn the_display_shows_a_text_or_the_weight() {
     let mut state = State::default();
     let mut send = |line: &[u8]| {
         for byte in line {
-            MODULE.byte(&Profile::a(), &mut state, *byte, 0, &mut [0; 256]);
+            MODULE.byte(&Profile::a(), &mut state, *byte, 0, &mut [0; 384]);
         }
         state.shown.clone()
     };
@@ -440,8 +529,8 @@ fn the_display_shows_a_text_or_the_weight() {
 }
 
 #[test]
-fn the_largest_answers_fit_256_bytes() {
-    assert!(replay(b"on\n> I0\n").len() - 16 <= 256);
+fn the_largest_answers_fit_384_bytes() {
+    assert!(replay(b"on\n> I0\n").len() - 16 <= 384);
 }
 
 #[test]
@@ -451,6 +540,20 @@ fn numbers_without_decimals_have_no_point() {
     assert_eq!(printed(3_000, scale, None), "4");
     assert_eq!(printed(-3_000, scale, None), "-4");
     assert_eq!(printed(-999, scale, None), "0");
+}
+
+/// Around every power of ten of each scale.
+#[test]
+fn what_fits_is_ten_characters() {
+    for scale in sweeps::allowed_scales() {
+        for power in 0..11 {
+            let edge = ten_to(power) * scale.unit.nanograms() / (1000 * ten_to(scale.decimals.into()));
+            let near = (edge - 9..edge + 9).chain([edge - edge / 1_000_000, edge + edge / 1_000_000]);
+            for net in near.flat_map(|net| [net, -net]) {
+                assert_eq!(fits(net, scale, None), printed(net, scale, None).len() <= 10, "{net} of {scale:?}");
+            }
+        }
+    }
 }
 
 // Typed tares.
@@ -468,9 +571,9 @@ fn both_roundings(number: &str, Scale { unit, decimals, step }: Scale) -> (i128,
     (places, nearest(places * unit.nanograms(), 1000 * shown))
 }
 
-/// The answer to a line, and the state after it.
-fn answered(profile: &Profile, line: &str) -> (String, State) {
-    let (mut state, mut room) = (State { tare: 1, ..State::default() }, [0; 256]);
+/// The answer to a line with a unit in force, and the state after it.
+fn answered(profile: &Profile, unit: Unit, line: &str) -> (String, State) {
+    let (mut state, mut room) = (State { tare: 1, unit, ..State::default() }, [0; 384]);
     let mut told = vec![];
     for byte in format!("{line}\r\n").bytes() {
         let Outcome { refusal, n } = MODULE.byte(profile, &mut state, byte, 0, &mut room);
@@ -482,18 +585,18 @@ fn answered(profile: &Profile, line: &str) -> (String, State) {
 
 /// The ten characters of the answer to a typed tare are the rounded decimal, and typing them sets the same tare again. True if it
 /// is granted.
-fn is_read_back(profile: &Profile, number: &str) -> bool {
-    let unit = profile.scale.unit.name();
-    let (places, tare) = both_roundings(number, profile.scale);
-    let (answer, state) = answered(profile, &format!("TA {number} {unit}"));
+fn is_read_back(profile: &Profile, scale: Scale, number: &str) -> bool {
+    let unit = scale.unit.name();
+    let (places, tare) = both_roundings(number, scale);
+    let (answer, state) = answered(profile, scale.unit, &format!("TA {number} {unit}"));
     if tare > profile.capacity.into() {
         assert_eq!((answer.as_str(), state.tare), ("TA L\r\n", 1), "{number} on {profile:?}");
         return false;
     }
-    let decimal = number_text(places, profile.scale.decimals, false);
+    let decimal = number_text(places, scale.decimals, false);
     assert_eq!(answer, format!("TA A {decimal:>10} {unit}\r\n"), "{number} on {profile:?}");
     assert_eq!(i128::from(state.tare), tare, "{number} on {profile:?}");
-    let again = answered(profile, &format!("TA {} {unit}", answer[5..15].trim_start()));
+    let again = answered(profile, scale.unit, &format!("TA {} {unit}", answer[5..15].trim_start()));
     assert_eq!(again, (answer, state), "{number} on {profile:?}");
     true
 }
@@ -507,16 +610,16 @@ fn what_ta_answers_is_what_it_set() {
         let ties = sweeps::second_ties(profile.capacity.into(), scale).into_iter().flatten();
         let halves = (0..12).chain(ties.flat_map(|steps| 2 * steps - 1..=2 * steps + 1));
         let numbers = halves.flat_map(|halves| sweeps::typed_halves(halves, scale));
-        let granted = numbers.filter(|number| is_read_back(&profile, number)).count();
+        let granted = numbers.filter(|number| is_read_back(&profile, scale, number)).count();
         assert!(granted > 0, "{scale:?}");
         for _ in 0..60 {
             let decimals = rng.below(7);
             let digits = rng.below(if decimals == 0 { 10 } else { 9 }) as u32;
             let number = i128::from(rng.next()).rem_euclid(10 * ten_to(digits));
-            is_read_back(&profile, &number_text(number, decimals as u8, false));
+            is_read_back(&profile, scale, &number_text(number, decimals as u8, false));
         }
         for largest in ["9999999999", "99999999.9", "9999.99999", "999.999999", "0000000000", "0.000001"] {
-            is_read_back(&profile, largest);
+            is_read_back(&profile, scale, largest);
         }
     }
 }
@@ -545,12 +648,14 @@ fn ties_of_the_second_rounding() {
     for scale in sweeps::allowed_scales() {
         let Scale { unit, decimals, step } = scale;
         let fewest = match (unit, step) {
-            (Unit::Gram | Unit::Milligram | Unit::Carat, _) => None,
+            (Unit::Gram | Unit::Milligram | Unit::Carat | Unit::Kilogram, _) => None,
             (Unit::Ounce | Unit::Grain, _) => Some(0),
             (Unit::TroyOunce, 2) => Some(5),
             (Unit::TroyOunce, _) => Some(4),
             (Unit::Pennyweight, 2) => Some(3),
             (Unit::Pennyweight, _) => Some(2),
+            (Unit::Pound, 2) => Some(3),
+            (Unit::Pound, _) => Some(2),
         };
         let ties = sweeps::second_ties(sweeps::with_widest_capacity(scale).capacity.into(), scale);
         assert_eq!(ties.is_some(), fewest.is_some_and(|fewest| decimals >= fewest), "{scale:?}");
@@ -586,16 +691,46 @@ fn the_tally_follows_zero_and_tare() {
 
 #[test]
 fn the_tally_reads_a_typed_tare_as_it_is_rounded() {
-    for History { name, scale, calls, accepted } in cases::histories() {
-        let told = Tally::new(&Profile { scale, ..Profile::a() }).take_lines(calls);
-        assert_eq!(told.is_ok(), accepted, "{name}: {told:?}");
+    for history in cases::histories() {
+        let told = Tally::new(&history.profile()).take_lines(&history.calls);
+        assert_eq!(told.is_ok(), history.accepted, "{}: {told:?}", history.name);
     }
     // Document 01's tally, which read the number unrounded, thought otherwise of the first two.
-    for History { name, scale, calls, accepted } in &cases::histories()[..2] {
-        let former =
-            Tally::faulty(&Profile { scale: *scale, ..Profile::a() }, Some(Fault::TallyReadsUnrounded)).take_lines(calls);
-        assert_ne!(former.is_ok(), *accepted, "{name}: {former:?}");
+    for history in &cases::histories()[..2] {
+        let former = Tally::faulty(&history.profile(), Some(Fault::TallyReadsUnrounded)).take_lines(&history.calls);
+        assert_ne!(former.is_ok(), history.accepted, "{}: {former:?}", history.name);
     }
+}
+
+/// Every unit once: a number of its last places is read with it and with no other, and a history without M21 is read in g.
+#[test]
+fn the_tally_reads_with_the_unit_in_force() {
+    for (unit, other) in UNITS.into_iter().flat_map(|unit| UNITS.map(|other| (unit, other))) {
+        let load = (unit.nanograms() / 100_000).min(200_000_000);
+        let number = weight_text(load, Profile::a().scale(unit), None);
+        let (line, load, answer) = (format!("M21 0 {}", other.code()), load.to_string(), format!("S S {number}"));
+        let set = |line: &str, told: &str| tallied(&[(line, told), (&load, ""), ("SI", &answer)]).is_ok();
+        assert_eq!(set(&line, "M21 A"), unit == other, "{unit:?} {other:?}");
+        assert_eq!(set(&line, "M21 L"), unit == Unit::Gram, "{unit:?} {other:?}");
+        assert_eq!(set("M21", &format!("M21 A 0 {}", other.code())), unit == Unit::Gram, "{unit:?} {other:?}");
+    }
+}
+
+/// Whole buffers and refused calls: a unit is set by the bytes taken, with their own answers.
+#[test]
+fn the_tally_takes_units_from_whole_buffers() {
+    let after = |taken: &[(Call, Vec<u8>)], refusal: u8, told: &str| {
+        let mut tally = Tally::new(&Profile::a());
+        tally.take_all(taken)?;
+        tally.take(Call::Byte { byte: b'\n', good: true }, refusal, b"M21 A\r\n")?;
+        tally.take(Call::Sample { load: 200_000, stable: true }, 0, format!("{told}\r\n").as_bytes())
+    };
+    let (grams, carats) = ("S S     0.2000 g", "S S       1.00 ct");
+    let set = two_lines(b"M21 0 8\r\n", "M21 A\r\n", b"M21 0 5\r\n", "M21 A\r\n");
+    assert_eq!((after(&set, 0, carats), after(&set, 0, grams).is_err()), (Ok(()), true));
+    let stopped = two_lines(b"DW\r\n", "DW A\r\n", b"M21 0 5\r", "");
+    assert_eq!((after(&stopped, 0, carats), after(&stopped, 0, grams).is_err()), (Ok(()), true));
+    assert_eq!((after(&stopped, 3, grams), after(&stopped, 3, carats).is_err()), (Ok(()), true));
 }
 
 /// The bytes of a whole buffer that were taken, each with its own answer: that of the first line and that of the second.
@@ -756,6 +891,28 @@ fn the_follower_reads_thresholds_and_tares() {
     only_last_when_started(&[("TA 1 g", "TA A     1.0000 g"), ("TAC", "TAC A"), ("s 0", "")], &["S S    -1.0000 g"]);
 }
 
+#[test]
+fn the_follower_takes_the_unit_in_force() {
+    let carats = ("M21 0 5", "M21 A");
+    // The 30 steps are those in force at each sample.
+    only_last_when_started(&[carats, ("s 59999", "")], &["S S       0.30 ct"]);
+    only_last_when_started(&[carats, ("s 60000", "S S       0.30 ct")], &[""]);
+    only_last_when_started(&[carats, ("s 3000", ""), ("M21 0 0", "M21 A"), ("s 3000", "S S     0.0030 g")], &[""]);
+    only_last_when_started(&[("M21 0 5", "M21 L"), ("s 3000", "S S     0.0030 g")], &[""]);
+    only_last_when_started(&[("M21", "M21 A 0 0"), ("s 3000", "S S     0.0030 g")], &[""]);
+    only_last_when_started(&[carats, ("@", "I4 A \"\""), ("SR", "S S       0.00 ct"), ("s 59999", "")], &["S S       0.30 ct"]);
+    // It is not sent at M21, and goes on after it, as SIR does.
+    only_last_when_started(&[("u 5000", "S D     0.0050 g"), carats, ("s 0", "S S       0.00 ct")], &[""]);
+    only_last_answer(&[("s 0", ""), ("SIR", ZERO), carats, ("s 0", "S S       0.00 ct")], &[""]);
+    // A set threshold stays, and is read in the unit in force.
+    let set = |line| [("s 0", ""), (line, ZERO)];
+    only_last_answer(&[&set("SR 0.01 g")[..], &[carats, ("s 9999", "")]].concat(), &["S S       0.05 ct"]);
+    only_last_answer(&[&set("SR 0.01 g")[..], &[carats, ("s 10000", "S S       0.05 ct")]].concat(), &[""]);
+    only_last_answer(&[carats, ("s 0", ""), ("SR 0.01 g", "S L")], &["", "S S       0.00 ct"]);
+    only_last_answer(&[carats, ("s 0", ""), ("SR 0.05 ct", "S S       0.00 ct"), ("s 9999", "")], &["S S       0.05 ct"]);
+    only_last_answer(&[carats, ("s 0", ""), ("SR 0.05 ct", "S S       0.00 ct"), ("s 10000", "S S       0.05 ct")], &[""]);
+}
+
 /// A whole buffer is the bytes that it took: no other, and each with its answer.
 #[test]
 fn the_follower_takes_a_whole_buffer_by_its_bytes() {
@@ -827,6 +984,13 @@ fn the_writer_refuses_what_has_no_line() {
     assert_eq!(refusal(Answer::Status { identification: "TAC".to_string(), status: 'I' }), 0);
     assert_eq!(refusal(Answer::Status { identification: "S".to_string(), status: 'L' }), 0);
     assert_eq!(refusal(Answer::Status { identification: "SR".to_string(), status: 'L' }), 4);
+    assert_eq!(refusal(Answer::Status { identification: "M21".to_string(), status: 'A' }), 0);
+    assert_eq!(refusal(Answer::Status { identification: "M21".to_string(), status: 'I' }), 0);
+    assert_eq!(refusal(Answer::Status { identification: "M21".to_string(), status: 'L' }), 0);
+    assert_eq!(refusal(Answer::Status { identification: "M21".to_string(), status: 'B' }), 4);
+    assert_eq!(refusal(Answer::Unit { unit: Unit::Pennyweight }), 0);
+    assert_eq!(refusal(Answer::Listed { status: 'A', level: 2, name: "M21".to_string() }), 0);
+    assert_eq!(refusal(Answer::Listed { status: 'A', level: 1, name: "M21".to_string() }), 4);
     assert_eq!(refusal(Answer::Status { identification: "SR".to_string(), status: 'I' }), 4);
     assert_eq!(refusal(Answer::Listed { status: 'B', level: 1, name: "SR".to_string() }), 0);
     assert_eq!(refusal(Answer::Listed { status: 'B', level: 0, name: "SR".to_string() }), 4);

@@ -42,7 +42,8 @@ piecesOf l = piecesAfter [] l
 abbrev pub valueAllowance : Resolution → Tally → ℕ
 valueAllowance r t = allowance r t
 
--- of a weight: the unit, and a value within half a step (and half a microgram if the tare is typed) of the exact weight
+-- of a weight: the unit in force, and a value within half a step (and half a microgram if the tare is typed) of the exact weight; of what
+-- M21 tells: the unit in force
 abbrev pub valueHolds : Resolution → Tally → List ℕ → Answer → Bool
 valueHolds r t l Nothing = true
 valueHolds r t l (Plain h) = true

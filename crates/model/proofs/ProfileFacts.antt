@@ -6,7 +6,7 @@ use mathlib.Core.List.{List, [], _∷_}
 use Prim.Native.Nat.{ℕ, zero, suc, _≤_, _<_}
 use native.Mathlib.Nat.{le-of-suc-le-suc, not-suc-le-zero}
 use native.Mathlib.Omega.{arith}
-use borrow.Author.Tests.{leb-true}
+use borrow.Author.Tests.{leb-true, le-leb}
 use lib.Dec.{leb}
 use lib.ListN.{length, getD, take, length-take}
 use Rattle.text.specs.Printable.{isPrintable}
@@ -15,6 +15,8 @@ use Rattle.weight.specs.declared.units.WeightUnit.the-variants.{G, Mg, Ct, Oz, 
 use Rattle.weight.specs.Rounding.{allowedResolution}
 use Rattle.weight.specs.Units.{allUnits, unitPlace}
 use Rattle.weight.proofs.Allowed.{both-left, both-right}
+use Rattle.model.specs.declared.profile.Text20.{Text20}
+use Rattle.model.specs.declared.profile.Text40.{Text40}
 use Rattle.model.specs.declared.profile.Profile.{Profile}
 use Rattle.model.specs.Profiles.{capacityAllowed, underloadAllowed, zeroRangeAllowed, timeoutAllowed, resolutionOf, netsAllowed, unitAllowed, everyUnit, unitsAllowed, textAllowed20, textAllowed40, textsAllowed, profileAllowed}
 use Rattle.model.proofs.Conjunctions.{Four, four}
@@ -127,3 +129,13 @@ pub text-short : (limit len : ℕ) (bytes : List ℕ) → (leb len limit && isPr
 text-short limit len bytes h =
     let few = leb-true len limit (both-left (leb len limit) (isPrintable (take len bytes)) h) in
     omega (arith, length-take len bytes)
+
+-- an empty text is allowed, whatever its bytes
+empty-allowed : (limit len : ℕ) (bytes : List ℕ) → len ≡ 0 → true ≡ (leb len limit && isPrintable (take len bytes))
+empty-allowed limit len bytes e = rw (e, le-leb 0 limit (omega arith))
+
+pub empty-allowed20 : (t : Text20) → t .len ≡ 0 → true ≡ textAllowed20 t
+empty-allowed20 t = empty-allowed 20 (t .len) (t .bytes)
+
+pub empty-allowed40 : (t : Text40) → t .len ≡ 0 → true ≡ textAllowed40 t
+empty-allowed40 t = empty-allowed 40 (t .len) (t .bytes)

@@ -5,7 +5,7 @@ ghost use lib.Dec.{leb};
 ghost use lib.ListN.{length, take};
 ghost use Rattle.text.specs.Printable.{isPrintable};
 ghost use Rattle.model.specs.Reaches.{surelyIn, closelyIn, surelyInAll, closelyInAll};
-ghost use Rattle.model.specs.Profiles.{capacityAllowed, underloadAllowed, zeroRangeAllowed, timeoutAllowed, textAllowed20, textsAllowed, profileAllowed, resolutionFrom, resolutionIn, scaleOf};
+ghost use Rattle.model.specs.Profiles.{capacityAllowed, underloadAllowed, zeroRangeAllowed, timeoutAllowed, textAllowed20, textAllowed40, textsAllowed, profileAllowed, resolutionFrom, resolutionIn, scaleOf};
 use crate::weighing::Weighing;
 use text::is_printable;
 use weight::Resolution;
@@ -102,13 +102,58 @@ pub fn is_text_allowed20(text: Text20) -> bool
     is_text_allowed(&text.bytes, text.len)
 }
 
+fn is_text_allowed40(text: Text40) -> bool
+    ensures { λ r. ⌜ r ≡ textAllowed40 text ⌝ }
+{
+    is_text_allowed(&text.bytes, text.len)
+}
+
+// An empty text, as most are, is neither copied nor looked at.
+fn is_model_allowed(profile: Profile) -> bool
+    ensures { λ r. ⌜ r ≡ textAllowed40 (profile .model) ⌝ }
+{
+    if profile.model.len == 0 {
+        return true;
+    }
+    let text = profile.model;
+    is_text_allowed40(text)
+}
+
+fn is_software_allowed(profile: Profile) -> bool
+    ensures { λ r. ⌜ r ≡ textAllowed40 (profile .software) ⌝ }
+{
+    if profile.software.len == 0 {
+        return true;
+    }
+    let text = profile.software;
+    is_text_allowed40(text)
+}
+
+fn is_serial_allowed(profile: Profile) -> bool
+    ensures { λ r. ⌜ r ≡ textAllowed20 (profile .serial) ⌝ }
+{
+    if profile.serial.len == 0 {
+        return true;
+    }
+    let text = profile.serial;
+    is_text_allowed20(text)
+}
+
+fn is_release_allowed(profile: Profile) -> bool
+    ensures { λ r. ⌜ r ≡ textAllowed20 (profile .release) ⌝ }
+{
+    if profile.release.len == 0 {
+        return true;
+    }
+    let text = profile.release;
+    is_text_allowed20(text)
+}
+
 fn are_texts_allowed(profile: Profile) -> bool
     ensures { λ r. ⌜ r ≡ textsAllowed profile ⌝ }
 {
-    let short = is_text_allowed(&profile.serial.bytes, profile.serial.len)
-        & is_text_allowed(&profile.release.bytes, profile.release.len);
-    let long = is_text_allowed(&profile.model.bytes, profile.model.len)
-        & is_text_allowed(&profile.software.bytes, profile.software.len);
+    let long = is_model_allowed(profile) & is_software_allowed(profile);
+    let short = is_serial_allowed(profile) & is_release_allowed(profile);
     long & short
 }
 

@@ -1,3 +1,4 @@
 pub mod Lengths
+pub mod NameTable
 pub mod Names
 pub mod Rows

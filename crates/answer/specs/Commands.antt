@@ -1,6 +1,6 @@
 -- Document 01, "Commands carried", and document 02: the commands in the order in which I0 lists them, what each of them is, and their places.
 -- Assumes nothing.
-use Prim.Native.Nat.{ℕ, suc, _+_, _-_, _*_}
+use Prim.Native.Nat.{ℕ, suc}
 use Prim.Native.String.{String}
 use mathlib.Core.Bool.{Bool, true, false, cond, _&&_}
 use mathlib.Core.List.{List, [], _∷_, map}
@@ -229,18 +229,3 @@ isM21 c = eqb c placeM21
 -- I2 to I5, whose answer is a text
 abbrev pub hasText : ℕ → Bool
 hasText c = leb placeI2 c && leb c placeI5
-
--- ---- how a name is looked for
-
--- a word's length, first and last byte, and 0 for a word of over three bytes, which is no name
-unfoldable pub endsOf : List ℕ → ℕ
-endsOf w = cond (leb (length w) 3) (length w * 65536 + getD w 0 0 * 256 + getD w (length w - 1) 0) 0
-
-abbrev pub allEnds : List (List ℕ) → List ℕ
-allEnds [] = []
-allEnds (n ∷ ns) = endsOf n ∷ allEnds ns
-
--- how many stand before a number, and all where it is none
-unfoldable pub placeAmong : List ℕ → ℕ → ℕ
-placeAmong [] k = 0
-placeAmong (x ∷ xs) k = cond (eqb k x) 0 (suc (placeAmong xs k))

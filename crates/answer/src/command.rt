@@ -1,14 +1,12 @@
 // The commands, each known by its place in the order in which I0 lists them.
 ghost use mathlib.Core.Path.{_≡_};
 ghost use mathlib.Core.List.{[], _∷_};
-ghost use Prim.Native.Nat.{_+_, _*_, _≤_};
+ghost use Prim.Native.Nat.{_≤_};
 ghost use lib.ListN.{length};
-ghost use Rattle.answer.specs.Commands.{nameOf, levelOf, kindOf, takesParameters, needsSample, mayWait, hasText, names, placeOf, endsOf, allEnds, placeAmong};
-ghost use Rattle.text.specs.Ascii.{sameText};
+ghost use Rattle.answer.specs.Commands.{nameOf, levelOf, kindOf, takesParameters, needsSample, mayWait, hasText};
 ghost use Rattle.text.specs.Short.{shortOf};
 ghost use Rattle.text.specs.declared.short.ShortText.{ShortText};
 use text::ShortText;
-use text::same_text;
 
 pub const I0: u8 = 0;
 
@@ -192,78 +190,4 @@ pub fn has_text(command: u8) -> bool
     ensures { λ r. ⌜ r ≡ hasText command ⌝ }
 {
     (I2 <= command) & (command <= I5)
-}
-
-// The whole word: one that goes on after the name is another word.
-fn is_name(word: &[u8], command: u8) -> bool
-    ensures { λ r. ⌜ r ≡ sameText (now (word .entry)) (nameOf command) ⌝ }
-{
-    let name = name_of(command);
-    let cells = name.cells;
-    let len = name.len;
-    if word.len() != len {
-        return false;
-    }
-    same_text(&word[..len], &cells[..len])
-}
-
-fn joined(len: usize, first: u8, last: u8) -> u32
-    requires { ⌜ len ≤ 3 ⌝ }
-    ensures { λ r. ⌜ r ≡ len * 65536 + first * 256 + last ⌝ }
-{
-    len as u32 * 65536 + first as u32 * 256 + last as u32
-}
-
-// A word's length, first and last byte: no two names have all three in common. No name is longer than three bytes.
-fn ends_of(word: &[u8]) -> u32
-    ensures { λ r. ⌜ r ≡ endsOf (now (word .entry)) ⌝ }
-{
-    let len = word.len();
-    if len == 0 {
-        return 0;
-    }
-    if 3 < len {
-        return 0;
-    }
-    joined(len, word[0], word[len - 1])
-}
-
-// The place of the name with these ends.
-fn place_of_ends(ends: u32) -> u8
-    ensures { λ r. ⌜ r ≡ placeAmong (allEnds names) ends ⌝ }
-{
-    match ends {
-        0x24930 => I0,
-        0x24931 => I1,
-        0x24932 => I2,
-        0x24933 => I3,
-        0x24934 => I4,
-        0x24935 => I5,
-        0x15353 => S,
-        0x25349 => SI,
-        0x35352 => SIR,
-        0x15A5A => Z,
-        0x25A49 => ZI,
-        0x14040 => RESET,
-        0x14444 => D,
-        0x24457 => DW,
-        0x25352 => SR,
-        0x15454 => T,
-        0x25441 => TA,
-        0x35443 => TAC,
-        0x25449 => TI,
-        0x34D31 => M21,
-        _ => NONE,
-    }
-}
-
-// The place of a name, and NONE for any other word.
-pub fn find_command(word: &[u8]) -> u8
-    ensures { λ r. ⌜ r ≡ placeOf (now (word .entry)) ⌝ }
-{
-    let command = place_of_ends(ends_of(word));
-    if is_name(word, command) {
-        return command;
-    }
-    NONE
 }

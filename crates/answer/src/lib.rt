@@ -2,6 +2,7 @@
 // The crates above use the promises of the functions named here and the laws of proofs/.
 mod answer;
 mod command;
+mod name_table;
 
 pub use answer::Answer;
 pub use answer::Error;
@@ -34,7 +35,6 @@ pub use command::TAC;
 pub use command::TI;
 pub use command::Z;
 pub use command::ZI;
-pub use command::find_command;
 pub use command::has_text;
 pub use command::kind_of;
 pub use command::level_of;
@@ -43,3 +43,4 @@ pub use command::name_length;
 pub use command::name_of;
 pub use command::needs_sample;
 pub use command::takes_parameters;
+pub use name_table::find_command;

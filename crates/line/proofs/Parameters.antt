@@ -1,14 +1,14 @@
 -- The parameters of D, TA, SR and M21: each way of the code against the definition.
 -- Assumes nothing.
 use mathlib.Core.Path.{_≡_, refl, sym, ap, _∙_}
-use mathlib.Core.Bool.{Bool, true, false, _&&_, and-false, and-eq-true-iff}
+use mathlib.Core.Bool.{Bool, true, false, cond, _&&_, _||_, and-false, and-eq-true-iff}
 use mathlib.Core.List.{List, [], _∷_}
-use Prim.Native.Nat.{ℕ, _+_, _-_, _≤_, _<_}
+use Prim.Native.Nat.{ℕ, suc, _+_, _-_, _≤_, _<_}
 use native.Mathlib.Omega.{arith}
 use lib.Dec.{leb, eqb}
 use lib.ListN.{length, getD, take, drop, length-take, length-drop}
-use lib.Seq.{length-take-le}
-use borrow.Author.Tests.{le-leb, lt-leb, lt-ltb, le-ltb, leb-true}
+use lib.Seq.{length-take-le, drop-cons}
+use borrow.Author.Tests.{le-leb, lt-leb, lt-ltb, le-ltb, leb-true, eqb-true}
 use Rattle.answer.specs.Commands.{placeD, placeM21, placeSR, placeTA}
 use Rattle.line.specs.declared.judge.Situation.{Situation}
 use Rattle.line.specs.declared.judge.Verdict.{Verdict}
@@ -23,8 +23,10 @@ use Rattle.weight.specs.declared.changes.Threshold.{Threshold}
 use Rattle.weight.specs.declared.units.WeightUnit.{WeightUnit}
 use Rattle.weight.specs.Characters.{space}
 use Rattle.text.specs.Ascii.{ascii, sameText}
-use Rattle.text.specs.Searching.{FirstAt, afterSpace, hasSpace}
-use Rattle.text.proofs.Searching.{rest-is}
+use Rattle.text.specs.Searching.{FirstAt, beforeSpace, afterSpace, hasSpace}
+use Rattle.text.proofs.Named.{same-is}
+use Rattle.classes.specs.Classes.{firstIn}
+use Rattle.text.proofs.Searching.{rest-is, quote-first}
 use Rattle.text.specs.declared.unit_texts.UnitRead.{UnitRead}
 use Rattle.text.specs.declared.unit_texts.UnitRead.the-variants.{Named, Unknown}
 use Rattle.text.specs.UnitTexts.{unitText, unitCoded}
@@ -44,12 +46,17 @@ module _ (p : List ℕ) where
   unfolding isQuoted
   no-quotes h = rw (lt-leb 2 (length p) h)
 
-  pub in-quotes : {s : Bool} → 2 ≤ length p → s ≡ isShown (take (length p - 1 - 1) (drop 1 p))
-      → (eqb (getD p 0 0) 34 && eqb (getD p (length p - 1) 0) 34 && s) ≡ isQuoted p
+  -- the first and the last byte by their class, what stands between them as it is
+  pub in-quotes : {i j : ℕ} {s : Bool} → 2 ≤ length p → i ≡ firstIn 8 p → j ≡ firstIn 8 (take (length p - (length p - 1)) (drop (length p - 1) p))
+      → s ≡ isShown (take (length p - 1 - 1) (drop 1 p)) → (eqb i 0 && eqb j 0 && s) ≡ isQuoted p
   unfolding isQuoted
-  in-quotes {s} h e =
+  in-quotes {i} {j} {s} h first last e =
       let two : length p - 1 - 1 ≡ length p - 2 = omega arith in
-      rw (le-leb 2 (length p) h) (ap (λ (b : Bool). eqb (getD p 0 0) 34 && eqb (getD p (length p - 1) 0) 34 && b) (rw two at e))
+      let opened : eqb i 0 ≡ eqb (getD p 0 0) 34 = quote-first (getD p 0 0) (drop 1 p) (first ∙ ap (firstIn 8) (drop-cons p 0 0 (omega arith))) in
+      let closed : eqb j 0 ≡ eqb (getD p (length p - 1) 0) 34 =
+      quote-first (getD p (length p - 1) 0) (drop (suc (length p - 1)) p)
+      (last ∙ ap (firstIn 8) (rest-is (length p - 1) p ∙ drop-cons p (length p - 1) 0 (omega arith))) in
+      rw (le-leb 2 (length p) h, opened, closed) (ap (λ (b : Bool). eqb (getD p 0 0) 34 && eqb (getD p (length p - 1) 0) 34 && b) (rw two at e))
 
 -- a text that D takes, between its quotes
 pub record Between (p : List ℕ) : Type 0 where
@@ -169,22 +176,42 @@ module _ (n : UnitRead) where
   unfolding codeRule
   code-unknown told = rw told
 
--- too short for the host unit and a space
-short-prefix : (p : List ℕ) → length p < 2 → sameText (take 2 p) (ascii "0 ") ≡ false
-short-prefix [] h = refl
-short-prefix (a ∷ []) h = and-false (eqb a 48)
-short-prefix (a ∷ b ∷ p) h = absurd (omega arith)
+-- 0 and a space stand in front where 0 stands before the first space
+host-front : (p : List ℕ) → sameText (take 2 p) (ascii "0 ") ≡ hasSpace p && sameText (beforeSpace p) (ascii "0")
+host-front [] = refl
+host-front (a ∷ []) = by (eqb a space)
+  where
+    by : (s : Bool) → (eqb a 48 && false) ≡ (s || false) && sameText (cond s [] (a ∷ [])) (ascii "0")
+    by true = and-false (eqb a 48)
+    by false = and-false (eqb a 48)
+host-front (a ∷ b ∷ p) = by (eqb a space) (eqb b space) refl
+  where
+    by : (s t : Bool) → eqb a space ≡ s
+        → (eqb a 48 && (t && true)) ≡ (s || (t || hasSpace p)) && sameText (cond s [] (a ∷ cond t [] (b ∷ beforeSpace p))) (ascii "0")
+    by true t e = rw (eqb-true a space e)
+    by false true e = refl
+    by false false e = and-false (eqb a 48) ∙ sym (ap (λ (x : Bool). hasSpace p && x) (and-false (eqb a 48)) ∙ and-false (hasSpace p))
 
-module _ (p : List ℕ) where
-  pub too-short : length p < 2 → Wrong placeM21 ≡ selectRule p
+module _ (p : List ℕ) {i : ℕ} (f : FirstAt space p i) where
+  pub front-cells : i ≡ length (take i p)
+  front-cells = sym (length-take-le i p (f .in-text))
+
+  -- without a space there is no code
+  pub no-code : length p ≤ i → Wrong placeM21 ≡ selectRule p
   unfolding selectRule unitIn codeRule
-  too-short h = rw (short-prefix p h)
+  no-code h = rw (host-front p, ← f .has, le-ltb i (length p) h)
 
-  module _ {same : Bool} (known : same ≡ sameText (take 2 p) (48 ∷ 32 ∷ [])) where
+  module _ {same : Bool} (within : i < length p) (known : same ≡ sameText (take i p) (48 ∷ [])) where
+    front : sameText (take 2 p) (ascii "0 ") ≡ same
+    front = host-front p ∙ rw (← f .has, lt-ltb i (length p) within, ← f .before) (sym known)
+
     pub other-place : same ≡ false → Wrong placeM21 ≡ selectRule p
     unfolding selectRule unitIn codeRule
-    other-place e = rw (sym known ∙ e)
+    other-place e = rw (front ∙ e)
 
-    pub code-read : {n : UnitRead} {r : Verdict} → same ≡ true → n ≡ unitCoded (take (length p - 2) (drop 2 p)) → r ≡ codeRule n → r ≡ selectRule p
+    pub code-read : {n : UnitRead} {r : Verdict} → same ≡ true → n ≡ unitCoded (take (length p - (i + 1)) (drop (i + 1) p)) → r ≡ codeRule n → r ≡ selectRule p
     unfolding selectRule unitIn
-    code-read e read f = f ∙ ap codeRule (read ∙ ap unitCoded (rest-is 2 p)) ∙ rw (sym known ∙ e)
+    code-read e read told =
+        let zero-alone : take i p ≡ 48 ∷ [] = same-is (take i p) (48 ∷ []) (sym known ∙ e) in
+        let one : i ≡ 1 = front-cells ∙ ap length zero-alone in
+        told ∙ ap codeRule (read ∙ ap unitCoded (rest-is (i + 1) p ∙ ap (λ (k : ℕ). drop (k + 1) p) one)) ∙ rw (front ∙ e)

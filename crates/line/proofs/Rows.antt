@@ -21,12 +21,11 @@ use Rattle.line.specs.Parts.{showRule, amountRule, presetRule, threshold
 use Rattle.weight.specs.Characters.{space}
 use Rattle.text.specs.Searching.{FirstAt, afterSpace, hasSpace}
 use Rattle.text.proofs.Searching.{rest-is}
+use Rattle.classes.specs.Classes.{firstIn}
+use Rattle.weight.proofs.Allowed.{neither-left, neither-right}
+use Rattle.line.proofs.Scanning.{place-limit, scanned-all, space-at-break}
 
 -- ---- rows 6 to 8
-
--- the name's cells
-pub name-cells : (t : List ℕ) (i : ℕ) → FirstAt space t i → i ≡ length (take i t)
-name-cells t i at = sym (length-take-le i t (at .in-text))
 
 -- the same choice by the opposite test
 opposite : (q : Bool) (a b : Verdict) → cond q a b ≡ cond (not q) b a
@@ -91,27 +90,47 @@ module _ (j : Situation) (c : ℕ) (t : List ℕ) (i : ℕ) (at : FirstAt space 
 
 -- ---- the whole table
 
+-- the name's cells
+pub name-cells : (t : List ℕ) (s : ℕ) {i : ℕ} → i ≡ firstIn s t → i ≡ length (take i t)
+name-cells t s {i} first = sym (length-take-le i t (place-limit t s first))
+
 module _ (j : Situation) (faulty over : Bool) (t : List ℕ) where
   pub row-1 : faulty ≡ true → Erroneous Transmission ≡ textRows j faulty over t
   unfolding textRows
   row-1 e = rw e
 
-  module _ (good : faulty ≡ false) (i : ℕ) (at : FirstAt space t i) {c : ℕ} (found : c ≡ placeOf (take i t)) where
-    named : commandIn t ≡ c
-    unfolding commandIn
-    named = sym (found ∙ ap placeOf (at .before))
+  module _ (i : ℕ) (first : i ≡ firstIn 68 t) {control : Bool} (scanned : control ≡ hasControl (take (length t - i) (drop i t))) where
+    -- what is known of the line: no control byte is in it, so its name ends at a space
+    pub space-known : (c : ℕ) → (over || control || leb commandCount c) ≡ false → FirstAt space t i
+    space-known c known = space-at-break t first scanned (neither-right over control (neither-left (over || control) (leb commandCount c) known))
 
-    module _ {control : Bool} (scanned : control ≡ hasControl t) where
+    module _ (good : faulty ≡ false) {c : ℕ} (found : c ≡ placeOf (take i t)) where
+      named : FirstAt space t i → commandIn t ≡ c
+      unfolding commandIn
+      named at = sym (found ∙ ap placeOf (at .before))
+
+      -- the name counts where no control byte does
       unknown : (over || hasControl t || leb (length names) (commandIn t)) ≡ (over || control || leb commandCount c)
-      unknown = rw (named, sym scanned)
+      unknown = rw (sym (scanned-all t first scanned)) (by control refl)
+        where
+          by : (b : Bool) → control ≡ b → (over || b || leb (length names) (commandIn t)) ≡ (over || b || leb commandCount c)
+          by true e = either over
+            where
+              either : (o : Bool) → (o || true || leb (length names) (commandIn t)) ≡ (o || true || leb commandCount c)
+              either true = refl
+              either false = refl
+          by false e = rw (named (space-at-break t first scanned e))
 
       pub row-2 : (over || control || leb commandCount c) ≡ true → Erroneous Syntax ≡ textRows j faulty over t
       unfolding textRows
       row-2 e = rw (good, unknown ∙ e)
 
       module _ (known : (over || control || leb commandCount c) ≡ false) {takes : Bool} (asked : takes ≡ takesParameters c) where
+        at : FirstAt space t i
+        at = space-known c known
+
         extra : (hasSpace t && not (takesParameters (commandIn t))) ≡ (ltb i (length t) && not takes)
-        extra = rw (sym (at .has), named, sym asked)
+        extra = rw (sym (at .has), named at, sym asked)
 
         pub row-3 : (ltb i (length t) && not takes) ≡ true → Erroneous Logical ≡ textRows j faulty over t
         unfolding textRows
@@ -120,16 +139,16 @@ module _ (j : Situation) (faulty over : Bool) (t : List ℕ) where
         module _ (fine : (ltb i (length t) && not takes) ≡ false) where
           pub row-4 : c ≡ placeReset → Reset ≡ textRows j faulty over t
           unfolding textRows
-          row-4 e = rw (good, unknown ∙ known, extra ∙ fine, named, eq-eqb c placeReset e)
+          row-4 e = rw (good, unknown ∙ known, extra ∙ fine, named at, eq-eqb c placeReset e)
 
           module _ (other : c ≡ placeReset → ⊥) where
             pub row-5 : {r : Verdict} → j .waiting ≡ true → r ≡ Busy c → r ≡ textRows j faulty over t
             unfolding textRows
-            row-5 e f = f ∙ rw (good, unknown ∙ known, extra ∙ fine, named, ne-eqb c placeReset other, e)
+            row-5 e f = f ∙ rw (good, unknown ∙ known, extra ∙ fine, named at, ne-eqb c placeReset other, e)
 
             pub rows-6-to-8 : {r : Verdict} → j .waiting ≡ false → r ≡ lastRows j c t → r ≡ textRows j faulty over t
             unfolding textRows lastRows
-            rows-6-to-8 e f = f ∙ rw (good, unknown ∙ known, extra ∙ fine, named, ne-eqb c placeReset other, e)
+            rows-6-to-8 e f = f ∙ rw (good, unknown ∙ known, extra ∙ fine, named at, ne-eqb c placeReset other, e)
 
 -- ---- the cells
 

@@ -25,7 +25,9 @@ use answer::TA;
 use answer::find_command;
 use answer::needs_sample;
 use answer::takes_parameters;
-use text::first_at;
+use classes::CONTROLS;
+use classes::SPACES;
+use classes::first_in;
 use weight::Resolution;
 use weight::Tare;
 use weight::Threshold;
@@ -106,12 +108,16 @@ fn last_rows(situation: Situation, command: u8, text: &[u8], end: usize) -> Verd
     Verdict::Run(command)
 }
 
+// A name ends at a space. A control byte before one makes the line unknown, whatever it ends.
+const BREAKS: u8 = SPACES + CONTROLS;
+
 fn judge_text(situation: Situation, faulty: bool, over: bool, text: &[u8]) -> Verdict
     ensures { λ r. ⌜ r ≡ textRows situation faulty over (now (text .entry)) ⌝ }
 {
-    let end = first_at(text, b' ');
+    let end = first_in(text, BREAKS);
+    let control = has_control(&text[end..]);
     let command = find_command(&text[..end]);
-    let unknown = over | has_control(text) | (NONE <= command);
+    let unknown = over | control | (NONE <= command);
     let extra = (end < text.len()) & !takes_parameters(command);
     if faulty {
         return Verdict::Erroneous(Error::Transmission);

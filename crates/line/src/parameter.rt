@@ -8,8 +8,10 @@ use answer::D;
 use answer::M21;
 use answer::SR;
 use answer::TA;
+use classes::QUOTES;
+use classes::first_in;
 use text::UnitRead;
-use text::first_at;
+use text::first_space;
 use text::is_printable;
 use text::is_unit;
 use text::read_code;
@@ -42,7 +44,7 @@ fn is_quoted(text: &[u8]) -> bool
         return false;
     }
     let last = text.len() - 1;
-    let quotes = (text[0] == b'"') & (text[last] == b'"');
+    let quotes = (first_in(text, QUOTES) == 0) & (first_in(&text[last..], QUOTES) == 0);
     quotes & is_shown(&text[1..last])
 }
 
@@ -95,7 +97,7 @@ fn threshold_rule(capacity: u32, typed: Typed) -> Verdict
 fn number_in(unit: WeightUnit, parameter: &[u8]) -> &[u8]
     ensures { λ r. ⌜ now r ≡ numberIn unit (now (parameter .entry)) ⌝ }
 {
-    let space = first_at(parameter, b' ');
+    let space = first_space(parameter);
     if parameter.len() <= space {
         return &parameter[..0];
     }
@@ -136,19 +138,21 @@ fn code_rule(read: UnitRead) -> Verdict
     }
 }
 
-// The host unit, which M21 numbers 0, and the space after it.
-const HOST_UNIT: [u8; 2] = [b'0', b' '];
+// The host unit, as M21 numbers it.
+const HOST_UNIT: [u8; 1] = [b'0'];
 
 // What M21 does with its parameter.
 pub fn select_rule(parameter: &[u8]) -> Verdict
     ensures { λ r. ⌜ r ≡ selectRule (now (parameter .entry)) ⌝ }
 {
-    if parameter.len() < 2 {
+    let space = first_space(parameter);
+    if parameter.len() <= space {
         return Verdict::Wrong(M21);
     }
     let host = HOST_UNIT;
-    if same_text(&parameter[..2], &host) {
-        return code_rule(read_code(&parameter[2..]));
+    if same_text(&parameter[..space], &host) {
+        let start = space + 1;
+        return code_rule(read_code(&parameter[start..]));
     }
     Verdict::Wrong(M21)
 }

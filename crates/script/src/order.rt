@@ -22,7 +22,7 @@ use crate::words::first_word;
 use crate::words::from;
 use crate::words::spaces_in;
 use text::byte_at;
-use text::first_at;
+use text::first_space;
 use text::same_text;
 use weight::Load;
 
@@ -198,7 +198,7 @@ pub fn order_of(on: bool, line: &[u8]) -> Order
     if on & (first == b'w') {
         return buffer_order(line);
     }
-    if first_at(line, b' ') < line.len() {
+    if first_space(line) < line.len() {
         return named_order(on, line);
     }
     Order::Unknown

@@ -3,7 +3,7 @@ ghost use mathlib.Core.Path.{_≡_};
 ghost use Prim.Native.Nat.{_≤_};
 ghost use lib.ListN.{drop, length};
 ghost use Rattle.script.specs.Words.{firstWord, afterWord, spacesIn};
-use text::first_at;
+use text::first_space;
 
 // Everything from `start` on.
 pub fn from(text: &[u8], start: usize) -> &[u8]
@@ -19,7 +19,7 @@ pub fn from(text: &[u8], start: usize) -> &[u8]
 pub fn first_word(text: &[u8]) -> &[u8]
     ensures { λ r. ⌜ now r ≡ firstWord (now (text .entry)) ⌝ }
 {
-    let end = first_at(text, b' ');
+    let end = first_space(text);
     &text[..end]
 }
 
@@ -27,7 +27,7 @@ pub fn first_word(text: &[u8]) -> &[u8]
 pub fn after_word(text: &[u8]) -> &[u8]
     ensures { λ r. ⌜ now r ≡ afterWord (now (text .entry)) ⌝ }
 {
-    let space = first_at(text, b' ');
+    let space = first_space(text);
     if space < text.len() {
         return from(text, space + 1);
     }

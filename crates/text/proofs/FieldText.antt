@@ -3,12 +3,12 @@
 use mathlib.Core.Path.{_≡_, refl, _∙_, sym, ap, subst}
 use mathlib.Core.Bool.{Bool, true, false, cond, not, _&&_, _||_, or-true, or-false}
 use mathlib.Core.List.{List, [], _∷_}
-use Prim.Native.Nat.{ℕ, _-_, _≤_, _<_}
+use Prim.Native.Nat.{ℕ, suc, _-_, _≤_, _<_}
 use native.Mathlib.Omega.{arith}
-use lib.Dec.{eqb, ltb}
+use lib.Dec.{eqb, leb, ltb, leb·suc-suc}
 use lib.IntN.{ℤ}
 use lib.ListN.{length, getD, take, drop, length-drop}
-use borrow.Author.Tests.{eq-eqb, ne-eqb, eqb-true, lt-leb}
+use borrow.Author.Tests.{eq-eqb, ne-eqb}
 use Rattle.text.specs.declared.reading.FieldRead.{FieldRead}
 use Rattle.text.specs.declared.reading.FieldRead.the-variants.{Number, NoNumber}
 use Rattle.weight.specs.declared.rounding.LastPlaces.{LastPlaces}
@@ -18,7 +18,8 @@ use Rattle.text.specs.Decimals.{ReadsDecimal, MinusAt}
 use Rattle.text.specs.Reading.{beforePoint, hasMinus, afterMinus, noLeadingZero, isDecimal, valueIn, decimalsIn, isWritten, readNumber, readField, afterSpaces}
 use Rattle.text.proofs.DecimalText.{both}
 use Rattle.weight.proofs.SignedPlaces.{signed-within}
-use Rattle.text.proofs.Searching.{rest-is}
+use Rattle.text.specs.Searching.{FirstAt}
+use Rattle.text.proofs.Searching.{rest-is, first-length}
 
 -- ---- the first byte
 
@@ -37,26 +38,25 @@ other-first (c ∷ t) h n = let m = ne-eqb c minus n in record { in-text = omega
 
 -- ---- the zeros that lead
 
--- no text of one byte has one
-pub one-byte : (t : List ℕ) → length t < 2 → true ≡ noLeadingZero (beforePoint t)
-one-byte [] h = refl
-one-byte (c ∷ []) h = by (eqb c point)
-  where
-    by : (b : Bool) → true ≡ noLeadingZero (cond b [] (c ∷ []))
-    by true = refl
-    by false = refl
-one-byte (c ∷ d ∷ t) h = absurd (omega arith)
+-- none does in an empty text, or before another byte
+pub nothing-leads : (t : List ℕ) → length t < 1 → true ≡ noLeadingZero (beforePoint t)
+nothing-leads [] h = refl
+nothing-leads (c ∷ t) h = absurd (omega arith)
 
--- in a longer one the first byte leads, unless the point follows it
-pub two-bytes : (t : List ℕ) → 2 ≤ length t → not (eqb (getD t 0 0) 48) || eqb (getD t 1 0) point ≡ noLeadingZero (beforePoint t)
-two-bytes [] h = absurd (omega arith)
-two-bytes (c ∷ []) h = absurd (omega arith)
-two-bytes (c ∷ d ∷ t) h = by (eqb c point) (eqb d point) refl
+pub other-leads : (t : List ℕ) → 1 ≤ length t → (getD t 0 0 ≡ 48 → ⊥) → true ≡ noLeadingZero (beforePoint t)
+other-leads [] h n = absurd (omega arith)
+other-leads (c ∷ t) h n = by (eqb c point)
   where
-    by : (b e : Bool) → eqb c point ≡ b → not (eqb c 48) || e ≡ noLeadingZero (cond b [] (c ∷ cond e [] (d ∷ beforePoint t)))
-    by true e p = rw (eqb-true c point p)
-    by false true p = or-true (not (eqb c 48))
-    by false false p = or-false (not (eqb c 48)) ∙ rw (lt-leb (length (c ∷ d ∷ beforePoint t)) 1 (omega arith))
+    by : (b : Bool) → true ≡ noLeadingZero (cond b [] (c ∷ beforePoint t))
+    by true = refl
+    by false = sym (ap (λ (z : Bool). leb (suc (length (beforePoint t))) 1 || not z) (ne-eqb c 48 n) ∙ or-true (leb (suc (length (beforePoint t))) 1))
+
+-- a zero does unless it is the only byte before the point
+pub zero-leads : (t : List ℕ) {i : ℕ} → 1 ≤ length t → getD t 0 0 ≡ 48 → FirstAt point t i → ltb i 2 ≡ noLeadingZero (beforePoint t)
+zero-leads [] h e p = absurd (omega arith)
+zero-leads (c ∷ t) {i} h e p =
+    rw (first-length point (c ∷ t) i p, e)
+    (leb·suc-suc (suc (length (beforePoint t))) 1 ∙ sym (or-false (leb (suc (length (beforePoint t))) 1)))
 
 -- ---- the whole number
 

@@ -1,16 +1,20 @@
 -- Searches through a text from the front. Each asks something of the text by its first byte and what follows; at place i the
--- answer for the whole is the answer for what is left. Then the search for a byte, and what its place says of the text.
+-- answer for the whole is the answer for what is left. Then the search for a byte, also by its class, and what its place says of the text.
 -- Assumes nothing.
 use mathlib.Core.Path.{_≡_, refl, sym, ap, _∙_}
 use mathlib.Core.Bool.{Bool, true, false, cond, _||_, true≢false, false≢true}
 use mathlib.Core.List.{List, [], _∷_, _++_, append-nil}
 use Prim.Native.Nat.{ℕ, suc, _+_, _-_, _≤_, _<_}
+use native.Mathlib.Nat.{suc-add}
 use native.Mathlib.Numerals.{add-one}
 use native.Mathlib.Omega.{arith}
-use lib.Dec.{eqb}
+use lib.Dec.{eqb, leb·suc-suc}
 use lib.ListN.{length, getD, take, drop, drop-of-length-le, length-drop}
 use lib.Seq.{drop-cons, take-suc, append-snoc, take-all, length-take-le}
 use borrow.Author.Tests.{eq-eqb, ne-eqb, eqb-true, lt-ltb, le-ltb}
+use Rattle.classes.specs.Classes.{among, firstIn}
+use Rattle.classes.proofs.Words.{spaces, points, quotes}
+use Rattle.weight.specs.Characters.{space, point, quote}
 use Rattle.text.specs.Searching.{beforeFirst, afterFirst, hasByte, FirstAt}
 
 -- the end of a slice, as a call is lent it
@@ -82,6 +86,23 @@ module _ (b : ℕ) where
           has = rw (le-ltb i (length t) h) (none-left (hasByte b) t i (p .has) h refl);
         }
 
+  -- a class that has this byte alone is looked for as the byte
+  module _ (s : ℕ) (alone : (c : ℕ) → among s c ≡ eqb c b) where
+    pub first-of-class : (t : List ℕ) → FirstAt b t (firstIn s t)
+    unfolding firstIn
+    first-of-class [] = record { in-text = omega arith; before = refl; after = refl; has = refl }
+    first-of-class (c ∷ t) = rw (alone c) (by (eqb c b) refl (first-of-class t))
+      where
+        by : (here : Bool) → eqb c b ≡ here → FirstAt b t (firstIn s t) → FirstAt b (c ∷ t) (cond here 0 (suc (firstIn s t)))
+        by true e p = record { in-text = omega arith; before = rw e; after = rw e; has = rw e (lt-ltb 0 (suc (length t)) (omega arith)) }
+        by false e p =
+            record {
+              in-text = omega (arith, p .in-text);
+              before = rw e (ap (λ (r : List ℕ). c ∷ r) (p .before));
+              after = rw (e, suc-add (firstIn s t) 1) (p .after);
+              has = rw (e, leb·suc-suc (suc (firstIn s t)) (length t)) (p .has);
+            }
+
   -- the place is the length of what stands before
   pub first-length : (t : List ℕ) (i : ℕ) → FirstAt b t i → i ≡ length (beforeFirst b t)
   first-length t i p = sym (length-take-le i t (p .in-text)) ∙ ap length (p .before)
@@ -123,3 +144,20 @@ module _ (b : ℕ) where
           → length (cond here [] (c ∷ beforeFirst b t)) + length (cond here t (afterFirst b t)) ≤ suc (length t)
       go true ih = omega arith
       go false ih = omega arith
+
+-- ---- the bytes with a class of their own
+
+pub first-space-at : (t : List ℕ) {i : ℕ} → i ≡ firstIn 4 t → FirstAt space t i
+first-space-at t e = rw e (first-of-class space 4 spaces t)
+
+pub first-point-at : (t : List ℕ) {i : ℕ} → i ≡ firstIn 16 t → FirstAt point t i
+first-point-at t e = rw e (first-of-class point 16 points t)
+
+-- whether a text begins with a quote
+pub quote-first : (c : ℕ) (t : List ℕ) {i : ℕ} → i ≡ firstIn 8 (c ∷ t) → eqb i 0 ≡ eqb c quote
+unfolding firstIn
+quote-first c t e = rw (e, quotes c) (by (eqb c quote))
+  where
+    by : (here : Bool) → eqb (cond here 0 (suc (firstIn 8 t))) 0 ≡ here
+    by true = refl
+    by false = ne-eqb (suc (firstIn 8 t)) 0 (λ e. omega arith)

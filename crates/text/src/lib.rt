@@ -13,6 +13,7 @@ pub use reading::FieldRead;
 pub use reading::read_field;
 pub use scanning::byte_at;
 pub use scanning::first_at;
+pub use scanning::first_space;
 pub use scanning::is_printable;
 pub use scanning::part;
 pub use scanning::same_text;

@@ -2,9 +2,15 @@
 ghost use mathlib.Core.Path.{_≡_};
 ghost use Prim.Native.Nat.{_<_, _≤_};
 ghost use lib.ListN.{length, drop};
+ghost use Rattle.weight.specs.Characters.{point};
 ghost use Rattle.text.specs.Decimals.{TenDigits, ReadsWhole, ReadsDecimal, MinusAt};
+ghost use Rattle.text.specs.Searching.{FirstAt};
 ghost use Rattle.text.specs.Reading.{afterSpaces, beforePoint, noLeadingZero, readNumber, readField};
-use crate::scanning::first_at;
+use classes::ALL;
+use classes::DIGITS;
+use classes::POINTS;
+use classes::SPACES;
+use classes::first_in;
 use weight::LastPlaces;
 use weight::signed_places;
 
@@ -27,25 +33,27 @@ pub struct Decimal {
     pub value: u64,
 }
 
-const POINT: u8 = 46;
-
 const FIELD_WIDTH: usize = 10;
 
 const MOST_DECIMALS: usize = 6;
+
+const NO_SPACES: u8 = ALL - SPACES;
+
+const NO_DIGITS: u8 = ALL - DIGITS;
 
 // How many spaces the text begins with.
 fn space_count(text: &[u8]) -> usize
     ensures { λ r. ⌜ r ≤ length (now (text .entry)) ⌝ }
     ensures { λ r. ⌜ drop r (now (text .entry)) ≡ afterSpaces (now (text .entry)) ⌝ }
 {
-    let mut i = 0;
-    while i < text.len() {
-        if text[i] != b' ' {
-            return i;
-        }
-        i += 1;
-    }
-    i
+    first_in(text, NO_SPACES)
+}
+
+// Where the first point is; the length where there is none.
+fn first_point(text: &[u8]) -> usize
+    ensures { λ r. ⌜ FirstAt point (now (text .entry)) r ⌝ }
+{
+    first_in(text, POINTS)
 }
 
 // A text of digits after digits that stand for `start`, ten in all at most, so that no sum wraps.
@@ -59,22 +67,16 @@ fn read_whole(text: &[u8], start: u64) -> Whole
             value: 0,
         };
     }
+    if first_in(text, NO_DIGITS) < text.len() {
+        return Whole {
+            good: false,
+            value: 0,
+        };
+    }
     let mut value = start;
     let mut i = 0;
     while i < text.len() {
         let c = text[i];
-        if c < b'0' {
-            return Whole {
-                good: false,
-                value: 0,
-            };
-        }
-        if b'9' < c {
-            return Whole {
-                good: false,
-                value: 0,
-            };
-        }
         value = value * 10 + (c - b'0') as u64;
         i += 1;
     }
@@ -86,7 +88,7 @@ pub fn read_decimal(text: &[u8]) -> Decimal
     requires { ⌜ length (now text) ≤ 10 ⌝ }
     ensures { λ r. ⌜ ReadsDecimal (now (text .entry)) (r .good) (r .decimals) (r .value) ⌝ }
 {
-    let point = first_at(text, POINT);
+    let point = first_point(text);
     let whole = read_whole(&text[..point], 0);
     if point < text.len() {
         let start = point + 1;
@@ -131,10 +133,13 @@ fn minus_count(text: &[u8]) -> usize
 fn no_leading_zero(text: &[u8]) -> bool
     ensures { λ r. ⌜ r ≡ noLeadingZero (beforePoint (now (text .entry))) ⌝ }
 {
-    if text.len() < 2 {
+    if text.len() < 1 {
         return true;
     }
-    (text[0] != b'0') | (text[1] == POINT)
+    if text[0] != b'0' {
+        return true;
+    }
+    first_point(text) < 2
 }
 
 // A number written as a weight is: `text` is what follows the spaces.

@@ -4,6 +4,11 @@ ghost use lib.ListN.{getD, take, drop};
 ghost use Rattle.text.specs.Ascii.{sameText};
 ghost use Rattle.text.specs.Printable.{isPrintable};
 ghost use Rattle.text.specs.Searching.{FirstAt};
+ghost use Rattle.weight.specs.Characters.{space};
+use classes::CONTROLS;
+use classes::QUOTES;
+use classes::SPACES;
+use classes::first_in;
 
 pub fn same_text(a: &[u8], b: &[u8]) -> bool
     ensures { λ r. ⌜ r ≡ sameText (now (a .entry)) (now (b .entry)) ⌝ }
@@ -60,16 +65,18 @@ pub fn part(text: &[u8], start: usize, count: usize) -> &[u8]
     &text[start..stop]
 }
 
-// Bytes 32 to 255 without 34. Every byte is looked at: a way out at the first wrong one costs more.
+// Where the first space is; the length where there is none.
+pub fn first_space(text: &[u8]) -> usize
+    ensures { λ r. ⌜ FirstAt space (now (text .entry)) r ⌝ }
+{
+    first_in(text, SPACES)
+}
+
+const UNPRINTABLE: u8 = CONTROLS + QUOTES;
+
+// Bytes 32 to 255 without 34.
 pub fn is_printable(text: &[u8]) -> bool
     ensures { λ r. ⌜ r ≡ isPrintable (now (text .entry)) ⌝ }
 {
-    let mut i = 0;
-    let mut printable = true;
-    while i < text.len() {
-        let byte = text[i];
-        printable = printable & (b' ' <= byte) & (byte != b'"');
-        i += 1;
-    }
-    printable
+    text.len() <= first_in(text, UNPRINTABLE)
 }

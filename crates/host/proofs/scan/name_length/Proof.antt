@@ -5,11 +5,11 @@ use Rattle.host.proofs.scan.name_length.Statement.{statement}
 use Rattle.host.proofs.scan.name_length.Tie as tie
 use Rattle.text.proofs.Searching.{first-length}
 
-first-at-requires : tie.Need-first-at-requires
-first-at-requires c κs = search needs
+first-space-requires : tie.Need-first-space-requires
+first-space-requires c κs = search needs
 
 returns : tie.Need-returns
 returns c = search (needs, first-length)
 
 pub name-length-spec : {M : Type 1} → statement M
-name-length-spec = tie.close (tie.spec first-at-requires returns)
+name-length-spec = tie.close (tie.spec first-space-requires returns)

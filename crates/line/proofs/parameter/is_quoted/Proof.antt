@@ -11,11 +11,20 @@ returns c = search (needs, no-quotes)
 sub-last : tie.Need-sub-last
 sub-last c = search needs
 
-shared-slice-read-quotes : tie.Need-shared-slice-read-quotes
-shared-slice-read-quotes c = search needs
+first-in-requires : tie.Need-first-in-requires
+first-in-requires c κs = search needs
 
-shared-slice-read-quotes-2 : tie.Need-shared-slice-read-quotes-2
-shared-slice-read-quotes-2 c = search needs
+sub-first-in : tie.Need-sub-first-in
+sub-first-in c = search needs
+
+part-first-in-start : tie.Need-part-first-in-start
+part-first-in-start c = search needs
+
+part-first-in-end : tie.Need-part-first-in-end
+part-first-in-end c = search needs
+
+first-in-requires-2 : tie.Need-first-in-requires-2
+first-in-requires-2 c κs = search needs
 
 sub-is-shown : tie.Need-sub-is-shown
 sub-is-shown c = search needs
@@ -38,8 +47,11 @@ is-quoted-spec =
     (tie.spec
     returns
     sub-last
-    shared-slice-read-quotes
-    shared-slice-read-quotes-2
+    first-in-requires
+    sub-first-in
+    part-first-in-start
+    part-first-in-end
+    first-in-requires-2
     sub-is-shown
     part-is-shown-start
     part-is-shown-end

@@ -5,8 +5,8 @@ use Rattle.line.proofs.Parameters.{number-cells, no-space, other-unit, 
 use Rattle.line.proofs.parameter.number_in.Statement.{statement}
 use Rattle.line.proofs.parameter.number_in.Tie as tie
 
-first-at-requires : tie.Need-first-at-requires
-first-at-requires c κs = search needs
+first-space-requires : tie.Need-first-space-requires
+first-space-requires c κs = search needs
 
 slice-aggregate-result : tie.Need-slice-aggregate-result
 slice-aggregate-result c = search needs
@@ -45,7 +45,7 @@ pub number-in-spec : {M : Type 1} → statement M
 number-in-spec =
     tie.close
     (tie.spec
-    first-at-requires
+    first-space-requires
     slice-aggregate-result
     returns
     add-start

@@ -1,23 +1,27 @@
 -- `line::parameter::select_rule` meets its contract.
 -- Assumes nothing.
-use mathlib.Core.Path.{sym}
 use borrow.Author.Needs.{needs}
-use lib.Seq.{length-take-le}
-use Rattle.line.proofs.Parameters.{too-short, code-read, other-place}
+use Rattle.line.proofs.Parameters.{front-cells, no-code, code-read, other-place}
 use Rattle.line.proofs.parameter.select_rule.Statement.{statement}
 use Rattle.line.proofs.parameter.select_rule.Tie as tie
 
+first-space-requires : tie.Need-first-space-requires
+first-space-requires c κs = search needs
+
 returns : tie.Need-returns
-returns c = search (needs, too-short)
+returns c = search (needs, no-code)
 
 slice-aggregate-same-text : tie.Need-slice-aggregate-same-text
-slice-aggregate-same-text c = sym (length-take-le 2 (c .before .before .before .args .parameter .now) (c .before .if1 .left))
+slice-aggregate-same-text c = search (needs, front-cells)
 
 slice-aggregate-same-text-2 : tie.Need-slice-aggregate-same-text-2
 slice-aggregate-same-text-2 c = search needs
 
 same-text-requires : tie.Need-same-text-requires
 same-text-requires c κs = search needs
+
+add-start : tie.Need-add-start
+add-start c = search needs
 
 sub-read-code : tie.Need-sub-read-code
 sub-read-code c = search needs
@@ -44,10 +48,12 @@ pub select-rule-spec : {M : Type 1} → statement M
 select-rule-spec =
     tie.close
     (tie.spec
+    first-space-requires
     returns
     slice-aggregate-same-text
     slice-aggregate-same-text-2
     same-text-requires
+    add-start
     sub-read-code
     part-read-code-start
     part-read-code-end

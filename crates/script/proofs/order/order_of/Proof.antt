@@ -35,8 +35,8 @@ buffer-order-requires c κs = search needs
 returns-4 : tie.Need-returns-4
 returns-4 c = search (needs, buffer-line)
 
-first-at-requires : tie.Need-first-at-requires
-first-at-requires c κs = search needs
+first-space-requires : tie.Need-first-space-requires
+first-space-requires c κs = search needs
 
 named-order-requires : tie.Need-named-order-requires
 named-order-requires c κs = search needs
@@ -61,7 +61,7 @@ order-of-spec =
     returns-3
     buffer-order-requires
     returns-4
-    first-at-requires
+    first-space-requires
     named-order-requires
     returns-5
     returns-6)

@@ -5,8 +5,8 @@ use Rattle.script.proofs.WordText.{nothing-after, rest-after}
 use Rattle.script.proofs.words.after_word.Statement.{statement}
 use Rattle.script.proofs.words.after_word.Tie as tie
 
-first-at-requires : tie.Need-first-at-requires
-first-at-requires c κs = search needs
+first-space-requires : tie.Need-first-space-requires
+first-space-requires c κs = search needs
 
 add-from : tie.Need-add-from
 add-from c = search needs
@@ -25,4 +25,4 @@ returns-2 c = search (needs, nothing-after)
 
 pub after-word-spec : {M : Type 1} → statement M
 after-word-spec =
-    tie.close (tie.spec first-at-requires add-from from-requires returns from-requires-2 returns-2)
+    tie.close (tie.spec first-space-requires add-from from-requires returns from-requires-2 returns-2)

@@ -5,8 +5,8 @@ use Rattle.text.proofs.DecimalText.{whole-length, whole-room, fraction-
 use Rattle.text.proofs.reading.read_decimal.Statement.{statement}
 use Rattle.text.proofs.reading.read_decimal.Tie as tie
 
-first-at-requires : tie.Need-first-at-requires
-first-at-requires c κs = search needs
+first-point-requires : tie.Need-first-point-requires
+first-point-requires c κs = search needs
 
 slice-aggregate-read-whole : tie.Need-slice-aggregate-read-whole
 slice-aggregate-read-whole c = search (needs, whole-length)
@@ -51,7 +51,7 @@ pub read-decimal-spec : {M : Type 1} → statement M
 read-decimal-spec =
     tie.close
     (tie.spec
-    first-at-requires
+    first-point-requires
     slice-aggregate-read-whole
     read-whole-requires
     add-start

@@ -1,0 +1,4 @@
+mod Firsts
+mod Follows
+pub mod Texts
+pub mod Words

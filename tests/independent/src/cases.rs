@@ -61,7 +61,9 @@ pub fn all() -> Vec<Case> {
     let typed = [typed_to_steps(), typed_to_micrograms(), typed_limits(), typed_thresholds()];
     let lines = [unit_lines(), unit_orders(), unit_kept()];
     let units = [unit_weights(), unit_typed(), unit_on_change(), unit_profiles(), unit_rooms(), unit_scripts()];
-    base.into_iter().chain(on_change).chain(buffers).chain(typed).chain(lines).chain(units).flatten().collect()
+    let tables = [byte_classes(), names()];
+    let requested = on_change.into_iter().chain(buffers).chain(typed).chain(lines).chain(units).chain(tables);
+    base.into_iter().chain(requested).flatten().collect()
 }
 
 fn printing() -> Vec<Case> {
@@ -1535,6 +1537,105 @@ fn unit_scripts() -> Vec<Case> {
                 "> TA",
             ],
             &[&["?"; 23][..], &["TA A     0.0000 g", "TA A      0.000 g"]].concat(),
+        ),
+    ]
+}
+
+// Document 02, No. 6: what a table of byte classes and one of names have to say.
+
+/// Both sides of each edge between two classes.
+fn byte_classes() -> Vec<Case> {
+    vec![
+        on_a("31 is control, 32 is not", &["> D \"\x1F\"", "> D \" \"", "> D \"\0\"", "> D \"\t\""], &["ES", "D A", "ES", "ES"]),
+        on_a(
+            "127 to 255 are text",
+            &[
+                "b 44 20 22 7E 22 0D 0A",
+                "b 44 20 22 7F 22 0D 0A",
+                "b 44 20 22 80 22 0D 0A",
+                "b 44 20 22 8D 22 0D 0A",
+                "b 44 20 22 9F 22 0D 0A",
+                "b 44 20 22 A0 22 0D 0A",
+                "b 44 20 22 A2 22 0D 0A",
+                "b 44 20 22 FF 22 0D 0A",
+            ],
+            &["D A"; 8],
+        ),
+        on_a("quotes stand at a text's ends alone", &["> D \"!#\"", "> D \"a\"b\"", "> D \"\"\""], &["D A", "D L", "D L"]),
+        on_a(
+            "32 alone ends a name",
+            &["> DW ", "> DW\t", "> DW\t1", "> DW!", "b 44 57 1F 0D 0A", "b 44 57 A0 0D 0A", "b 44 57 00 0D 0A"],
+            &["EL", "ES", "ES", "ES", "ES", "ES", "ES"],
+        ),
+        on_a(
+            "32 alone parts parameters",
+            &["> TA\t1 g", "> TA 1\tg", "> TA 1_g", "b 54 41 20 31 A0 67 0D 0A", "> TA 1 g"],
+            &["ES", "ES", "TA L", "TA L", "TA A     1.0000 g"],
+        ),
+        on_a(
+            "46 alone is the point",
+            &["> TA 1.5 g", "> TA 1-5 g", "> TA 1/5 g", "> TA 1,5 g", "b 54 41 20 31 AE 35 20 67 0D 0A"],
+            &["TA A     1.5000 g", "TA L", "TA L", "TA L", "TA L"],
+        ),
+        on_a(
+            "48 to 57 are the digits",
+            &["> TA 0 g", "> TA 9 g", "> TA / g", "> TA 1/ g", "> TA : g", "> TA 1: g", "b 54 41 20 B1 20 67 0D 0A", "> TA 90 g"],
+            &["TA A     0.0000 g", "TA A     9.0000 g", "TA L", "TA L", "TA L", "TA L", "TA L", "TA A    90.0000 g"],
+        ),
+        on_a(
+            "64 alone is the at sign, 65 to 90 the capitals",
+            &["s 1000", "> @", "> `", "> A", "> ?", "> Z", "> z", "> [", "b C0 0D 0A", "> si", "> Si", "> sI", "> SI"],
+            &[ON, "ES", "ES", "ES", "Z A", "ES", "ES", "ES", "ES", "ES", "ES", "S S     0.0000 g"],
+        ),
+    ]
+}
+
+/// Each name, and the words beside it.
+fn names() -> Vec<Case> {
+    let in_byte_order = [
+        "> @", "> D", "> DW", "> I0", "> I1", "> I2", "> I3", "> I4", "> I5", "> M21", "> S", "> SI", "> SIR", "> SR", "> T",
+        "> TA", "> TAC", "> TI", "> Z", "> ZI",
+    ];
+    let before_list = [ON, "D L", "DW A"];
+    let after_list = [
+        "I1 A \"0\" \"2.30\" \"2.20\"",
+        "I2 A \"\"",
+        "I3 A \"\"",
+        ON,
+        "I5 A \"\"",
+        "M21 A 0 0",
+        "S S     0.0010 g",
+        "S S     0.0010 g",
+        "S S     0.0010 g",
+        "S S     0.0010 g",
+        "T S     0.0010 g",
+        "TA A     0.0010 g",
+        "TAC A",
+        "TI S     0.0010 g",
+        "Z A",
+        "ZI S",
+    ];
+    vec![
+        on_a(
+            "the names in byte order",
+            &[&["s 1000"], &in_byte_order[..]].concat(),
+            &[&before_list, &LIST[..], &after_list].concat(),
+        ),
+        on_a(
+            "a zero byte is no name's end",
+            &["> S\0", "> SI\0", "> SIR\0", "> @\0", "> S\0\0", "> \0S", "> S\0 1", "> \0"],
+            &["ES"; 8],
+        ),
+        on_a("a part of a name is none", &["> I", "> M", "> M2", "> 0", "> 21", "> A", "> W", "> "], &["ES"; 8]),
+        on_a(
+            "a longer word is no name",
+            &["> SIRX", "> SIR1", "> M21X", "> M210", "> TACK", "> DWD", "> I0I1", "> @@", "> ZIZ", "> SRS"],
+            &["ES"; 10],
+        ),
+        on_a(
+            "what lies between two names is none",
+            &["> C", "> DV", "> I6", "> M20", "> SH", "> SQ", "> TB", "> ZJ"],
+            &["ES"; 8],
         ),
     ]
 }

@@ -1,11 +1,18 @@
 //! Small faults that can be switched on, one at a time. The comparison has to notice each; nothing else uses them.
 
 macro_rules! faults {
-    ($list:ident: $($name:ident,)*; $readers:ident: $($reader:ident,)*; $tallies:ident: $($tally:ident,)*) => {
+    (
+        $list:ident: $($name:ident,)*;
+        $tables:ident: $($table:ident,)*;
+        $readers:ident: $($reader:ident,)*;
+        $tallies:ident: $($tally:ident,)*
+    ) => {
         #[derive(Clone, Copy, Debug, PartialEq, Eq)]
-        pub enum Fault { $($name,)* $($reader,)* $($tally,)* }
+        pub enum Fault { $($name,)* $($table,)* $($reader,)* $($tally,)* }
         /// Faults of the module and its replay.
         pub const $list: &[Fault] = &[$(Fault::$name),*];
+        /// What the module would do by a wrong table of byte classes or of names.
+        pub const $tables: &[Fault] = &[$(Fault::$table),*];
         /// Faults of the reader of answer lines.
         pub const $readers: &[Fault] = &[$(Fault::$reader),*];
         /// Faults of the tally, where it follows a typed tare and the unit in force.
@@ -98,6 +105,14 @@ faults! {
     StoppedAnswersDropped, UnfitAnswerCut, UnfitAnswerCounted, StoppedBufferRefused, FirstByteRefused, StopUnsaid,
     // a whole buffer: what goes on from call to call, and what is told
     BufferStartsLine, BufferEndsLine, CrForgottenBetween, CountInOneByte, TakenInOneByte,
+    ;
+    OF_THE_TABLES:
+    // classes of single bytes: 127; 128 to 255, wholly and by their low seven bits; 31, 32, 9, 46, 47, 58, 57, 34, 96
+    DeleteTakenForControl, HighBytesTakenForControl, ClassesBySevenBits, LastControlTakenForText, SpaceTakenForText,
+    TabTakenForSpace, PointTakenForText, SlashTakenForDigit, ColonTakenForDigit, NineTakenForText, QuoteTakenForText,
+    GraveTakenForAtSign,
+    // names
+    LastZeroIgnored, PartOfNameTaken, FourthByteIgnored, NamesExchanged, FirstNameMissed, LastNameMissed, ListedInByteOrder,
     ;
     OF_THE_READER:
     ReadLeadingZero, ReadMinusZero, ReadSevenDecimals, ReadBarePoint, ReadNegativeTare, ReadLeftAligned, ReadShortField,

@@ -1,7 +1,8 @@
-//! Document 01 and the first five requests of document 02 written a second time, from the paper, by plain arithmetic and strings.
+//! Document 01 and the first six requests of document 02 written a second time, from the paper, by plain arithmetic and strings.
 //! It shares no table and no code with the proved module, which it is compared with.
 
 pub mod buffer;
+pub mod byte_sweeps;
 pub mod cases;
 pub mod compare;
 pub mod decode;

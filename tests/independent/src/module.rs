@@ -260,7 +260,12 @@ impl Module {
 
     fn can_show(&self, text: &[u8]) -> bool {
         let room = if self.has(Fault::TextOf21Shown) { 21 } else { 20 };
-        is_text(text, room, None) || self.has(Fault::QuoteShown)
+        let taken_too = match self.fault {
+            Some(Fault::QuoteTakenForText) => Some(Fault::QuoteInText),
+            Some(Fault::LastControlTakenForText) => Some(Fault::ControlInText),
+            _ => None,
+        };
+        is_text(text, room, taken_too) || self.has(Fault::QuoteShown)
     }
 
     // Receiving.
@@ -325,15 +330,16 @@ impl Module {
 
     /// The cases at the end of a line, in their order.
     fn end_line(&self, profile: &Profile, state: &mut State) -> Vec<u8> {
-        let line = std::mem::take(&mut state.line);
+        let mut line = std::mem::take(&mut state.line);
         match self.fault {
+            Some(Fault::LastZeroIgnored) if line.bytes.ends_with(b"\0") => drop(line.bytes.pop()),
             Some(Fault::BytesKept) => state.line.bytes = line.bytes.clone(),
             Some(Fault::OverKept) => state.line.over = line.over,
             Some(Fault::FaultKept) => state.line.faulty = line.faulty,
             Some(Fault::CrKept) => state.line.cr = true,
             _ => {}
         }
-        let (name, rest) = match line.bytes.iter().position(|&byte| byte == b' ') {
+        let (name, rest) = match line.bytes.iter().position(|&byte| self.is_space(byte)) {
             Some(at) => (&line.bytes[..at], Some(&line.bytes[at + 1..])),
             None => (&line.bytes[..], None),
         };
@@ -362,17 +368,53 @@ impl Module {
     }
 
     fn is_malformed(&self, line: &Line) -> bool {
-        let control = line.bytes.iter().any(|&byte| byte < 32) && !self.has(Fault::ControlTaken);
-        line.over || control
+        line.over || line.bytes.iter().any(|&byte| self.is_control(byte))
+    }
+
+    /// A byte below 32, save for faults.
+    fn is_control(&self, byte: u8) -> bool {
+        match self.fault {
+            Some(Fault::ControlTaken) => false,
+            Some(Fault::DeleteTakenForControl) => byte < 32 || byte == 127,
+            Some(Fault::HighBytesTakenForControl) => !(32..128).contains(&byte),
+            Some(Fault::ClassesBySevenBits) => byte % 128 < 32,
+            Some(Fault::LastControlTakenForText) => byte < 31,
+            Some(Fault::TabTakenForSpace) => byte < 32 && byte != b'\t',
+            _ => byte < 32,
+        }
+    }
+
+    /// What ends a name, save for faults.
+    fn is_space(&self, byte: u8) -> bool {
+        match self.fault {
+            Some(Fault::ClassesBySevenBits) => byte % 128 == b' ',
+            Some(Fault::SpaceTakenForText) => false,
+            Some(Fault::TabTakenForSpace) => byte == b' ' || byte == b'\t',
+            _ => byte == b' ',
+        }
     }
 
     fn command_named(&self, name: &[u8]) -> Option<&'static str> {
         let upper = name.to_ascii_uppercase();
-        let name = if self.has(Fault::LowerCaseTaken) { &upper[..] } else { name };
+        let name = match self.fault {
+            Some(Fault::LowerCaseTaken) => &upper[..],
+            Some(Fault::GraveTakenForAtSign) if name == b"`" => b"@",
+            Some(Fault::FourthByteIgnored) => &name[..name.len().min(3)],
+            _ => name,
+        };
         let same = |known: &&str| known.as_bytes() == name;
-        let begins = |known: &&str| self.has(Fault::PrefixTaken) && name.starts_with(known.as_bytes());
+        let nearly = |known: &&str| match self.fault {
+            Some(Fault::PrefixTaken) => name.starts_with(known.as_bytes()),
+            Some(Fault::PartOfNameTaken) => !name.is_empty() && known.as_bytes().starts_with(name),
+            _ => false,
+        };
         let names = || COMMANDS.into_iter().map(|(name, _)| name);
-        names().find(same).or_else(|| names().rev().find(begins))
+        match (self.fault, names().find(same).or_else(|| names().rev().find(nearly))) {
+            (Some(Fault::NamesExchanged), Some("T")) => Some("TA"),
+            (Some(Fault::NamesExchanged), Some("TA")) => Some("T"),
+            (Some(Fault::FirstNameMissed), Some("@")) | (Some(Fault::LastNameMissed), Some("ZI")) => None,
+            (_, known) => known,
+        }
     }
 
     /// Orders 3 to 7.
@@ -594,7 +636,7 @@ impl Module {
 
     /// The number of a typed one, one space and the unit in force.
     fn typed<'a>(&self, scale: Scale, rest: &'a [u8]) -> Option<&'a [u8]> {
-        let at = rest.iter().position(|&byte| byte == b' ')?;
+        let at = rest.iter().position(|&byte| self.is_space(byte))?;
         let (number, mut unit) = (&rest[..at], &rest[at + 1..]);
         if self.has(Fault::TypedTwoSpaces) {
             unit = unit.strip_prefix(b" ").unwrap_or(unit);
@@ -1085,7 +1127,10 @@ impl Module {
             "M21" => self.has(Fault::UnitUnlisted),
             _ => false,
         };
-        let listed: Vec<(&str, u8)> = COMMANDS.into_iter().filter(|(name, _)| !left_out(name)).collect();
+        let mut listed: Vec<(&str, u8)> = COMMANDS.into_iter().filter(|(name, _)| !left_out(name)).collect();
+        if self.has(Fault::ListedInByteOrder) {
+            listed.sort();
+        }
         let line = |at: usize, (name, level): (&str, u8)| {
             let is_last = at + 1 == listed.len() || (name == "TI" && self.has(Fault::TiListedLast));
             let level = if name == "M21" && self.has(Fault::UnitListedAtLevelOne) { 1 } else { level };

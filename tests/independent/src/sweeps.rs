@@ -481,7 +481,7 @@ fn shown_then(display: &str, line: &str) -> Vec<String> {
 // Whole buffers.
 
 /// A whole buffer of these bytes, with a faulty one at a place or none.
-fn whole(bytes: &[u8], faulty: Option<usize>) -> String {
+pub fn whole(bytes: &[u8], faulty: Option<usize>) -> String {
     let mark = |place| if Some(place) == faulty { "!" } else { "" };
     let words = bytes.iter().enumerate().map(|(place, byte)| format!(" {byte:02X}{}", mark(place)));
     format!("w{}", words.collect::<String>())

@@ -181,7 +181,8 @@ pub fn typed_number(text: &[u8], fault: Option<Fault>) -> Option<(i128, u32)> {
     if text.is_empty() || text.len() > most {
         return None;
     }
-    let (whole, part) = match text.iter().position(|&byte| byte == b'.') {
+    let is_point = |byte: &u8| *byte == b'.' && fault != Some(Fault::PointTakenForText);
+    let (whole, part) = match text.iter().position(is_point) {
         Some(at) => (&text[..at], Some(&text[at + 1..])),
         None => (text, None),
     };
@@ -192,10 +193,15 @@ pub fn typed_number(text: &[u8], fault: Option<Fault>) -> Option<(i128, u32)> {
         return None;
     }
     let digits = [whole, decimals].concat();
-    if !digits.iter().all(u8::is_ascii_digit) {
+    let is_digit = |byte: &u8| match (byte, fault) {
+        (b'/', Some(Fault::SlashTakenForDigit)) | (b':', Some(Fault::ColonTakenForDigit)) => true,
+        (b'9', Some(Fault::NineTakenForText)) => false,
+        _ => byte.is_ascii_digit(),
+    };
+    if !digits.iter().all(is_digit) {
         return None;
     }
-    let number = digits.iter().fold(0, |sum, digit| sum * 10 + i128::from(digit - b'0'));
+    let number = digits.iter().fold(0, |sum, digit| sum * 10 + i128::from(digit.saturating_sub(b'0')));
     Some((number, decimals.len() as u32))
 }
 

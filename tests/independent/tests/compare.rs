@@ -1,6 +1,7 @@
 //! The comparison with the two real programs, whose paths are in REPLAY_BIN and DECODE_BIN. SEED and CALLS may be set: the seed is
 //! printed, and a longer run has more calls. A difference prints the shortest input that shows it.
 
+use independent::byte_sweeps::{parts, singly, together, SITUATIONS};
 use independent::cases;
 use independent::compare::{capture_bytes, difference, script_bytes, shortest, shown, Joined, Judge, Program, Script};
 use independent::decode::decode;
@@ -111,6 +112,21 @@ fn replay_is_the_same() {
     let (seed, calls) = (seed(), calls());
     note(&format!("replay: SEED={seed} CALLS={calls}"));
     compare_replay(Path::new(&path), seed, calls);
+}
+
+/// Every line of up to two bytes and every command line with a byte wrong, in each situation.
+#[test]
+fn every_line_is_judged_the_same() {
+    let Some(path) = variable("REPLAY_BIN") else {
+        note("REPLAY_BIN is not set: lines are not compared");
+        return;
+    };
+    let real = |input: &[u8]| run(Path::new(&path), input);
+    for scripts in SITUATIONS.iter().flat_map(|situation| [singly(situation), together(situation)]) {
+        assert_same(&scripts, script_bytes, &real, &replay);
+    }
+    let lines = SITUATIONS.len() * parts().concat().len();
+    note(&format!("lines: {lines} alone and {lines} in whole buffers judged the same"));
 }
 
 // Decode.

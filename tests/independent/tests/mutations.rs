@@ -1,9 +1,10 @@
 //! The mutation check: each small fault, switched on in this implementation, has to be noticed by the comparison.
 
+use independent::byte_sweeps::{singly, together};
 use independent::cases::{histories, History};
 use independent::compare::{capture_bytes, difference, script_bytes, shown, Judge, Script};
 use independent::decode::{decode, decode_with};
-use independent::faults::{Fault, OF_THE_MODULE, OF_THE_READER, OF_THE_TALLY};
+use independent::faults::{Fault, OF_THE_MODULE, OF_THE_READER, OF_THE_TABLES, OF_THE_TALLY};
 use independent::module::Module;
 use independent::random::{capture, script, Rng, MOST_UNSEEN};
 use independent::reader::Reader;
@@ -317,6 +318,10 @@ const OF_UNITS: &[Fault] = &[
     Fault::ThirtyStepsOfStart,
 ];
 
+/// Faults of how a line is read that random histories notice; the cases and the sweeps of bytes have to notice them too.
+const OF_LINES: &[Fault] =
+    &[Fault::ControlTaken, Fault::PrefixTaken, Fault::LowerCaseTaken, Fault::AnythingAfterName, Fault::QuoteShown];
+
 fn scripts(count: usize) -> Vec<Script> {
     let mut rng = Rng::new(SEED);
     (0..count).map(|_| script(&mut rng)).collect()
@@ -326,6 +331,15 @@ fn scripts(count: usize) -> Vec<Script> {
 fn without_state(script: &[Vec<u8>]) -> Vec<u8> {
     let lines: Script = script.iter().filter(|line| *line != b"state").cloned().collect();
     script_bytes(&lines)
+}
+
+#[test]
+fn the_readme_counts_the_faults() {
+    let lists = [OF_THE_MODULE, OF_THE_TABLES, OF_THE_READER, OF_THE_TALLY];
+    let total: usize = lists.iter().map(|list| list.len()).sum();
+    let said =
+        format!("{total} small faults, one at a time, each of which the comparison has to notice; {} of them", lists[1].len());
+    assert!(include_str!("../README.md").contains(&said), "{said}");
 }
 
 #[test]
@@ -352,18 +366,50 @@ fn the_sweep_notices_every_fault_of_typed_tares() {
     }
 }
 
+fn unnoticed_by_cases(faults: &[Fault]) -> Vec<Fault> {
+    let cases = independent::cases::all();
+    let unnoticed = |fault: &Fault| {
+        let faulty = |input: &[u8]| replay_with(Module { fault: Some(*fault) }, input, &mut |_| {});
+        cases.iter().all(|case| faulty(case.script.as_bytes()) == case.prints.as_bytes())
+    };
+    faults.iter().copied().filter(unnoticed).collect()
+}
+
 #[test]
 fn the_cases_notice_every_fault_of_units() {
-    let cases = independent::cases::all();
-    let unnoticed: Vec<Fault> = OF_UNITS
-        .iter()
-        .copied()
-        .filter(|&fault| {
+    assert_eq!(unnoticed_by_cases(OF_UNITS), vec![]);
+}
+
+#[test]
+fn the_cases_notice_every_fault_of_the_tables() {
+    let faults = [OF_THE_TABLES, OF_LINES].concat();
+    assert_eq!(unnoticed_by_cases(&faults), vec![]);
+}
+
+/// By each line alone, and by many in whole buffers.
+#[test]
+fn the_sweeps_of_bytes_notice_every_fault_of_the_tables() {
+    for scripts in [singly("s 1000"), together("s 1000")] {
+        let inputs: Vec<Vec<u8>> = scripts.iter().map(|one| script_bytes(one)).collect();
+        let told: Vec<Vec<u8>> = inputs.iter().map(|input| replay(input)).collect();
+        for fault in [OF_THE_TABLES, OF_LINES].concat() {
             let faulty = |input: &[u8]| replay_with(Module { fault: Some(fault) }, input, &mut |_| {});
-            cases.iter().all(|case| faulty(case.script.as_bytes()) == case.prints.as_bytes())
-        })
-        .collect();
-    assert!(unnoticed.is_empty(), "not noticed: {unnoticed:?}");
+            assert!(inputs.iter().zip(&told).any(|(input, told)| faulty(input) != *told), "{fault:?}");
+        }
+    }
+}
+
+/// Of a sweep's lines, the one that is judged otherwise is shown, with its bytes.
+#[test]
+fn a_line_judged_otherwise_is_shown_by_its_bytes() {
+    for (fault, sweep, due) in [
+        (Fault::LastNameMissed, singly("u 1000"), "on\nb 5A 49 0D 0A\n"),
+        (Fault::ColonTakenForDigit, together("u 1000"), "on\nw 54 41 20 3A 20 67 0D 0A\n"),
+    ] {
+        let faulty = |input: &[u8]| replay_with(Module { fault: Some(fault) }, input, &mut |_| {});
+        let shortest = difference(&sweep, script_bytes, &faulty, &replay).expect("a difference");
+        assert_eq!(shown(&script_bytes(&shortest)), shown(due.as_bytes()), "{fault:?}");
+    }
 }
 
 #[test]

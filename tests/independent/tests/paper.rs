@@ -1,13 +1,14 @@
 //! The paper's cases on this implementation, and constructed states, readings and histories.
 
 use independent::buffer::{Taken, MOST_BYTES};
+use independent::byte_sweeps::{command_lines, parts, short_lines, together, with_a_byte_wrong, SITUATIONS};
 use independent::cases::{self, run};
-use independent::compare::shown;
+use independent::compare::{script_bytes, shown};
 use independent::decode::decode;
 use independent::faults::Fault;
 use independent::module::{Line, Module, Outcome, Repetition, Sample, State, Wait};
 use independent::on_change::OnChange;
-use independent::profile::Profile;
+use independent::profile::{is_text, Profile};
 use independent::random::Rng;
 use independent::reader::{line_of, write, Answer, Reader};
 use independent::replay::replay;
@@ -34,6 +35,168 @@ fn bench_cases_and_worked_examples() {
 fn the_list_has_258_bytes() {
     let told = replay(b"on\n> I0\n");
     assert_eq!(told.len(), 258 + b"I4 A \"VA-0001\"\r\n".len());
+}
+
+// Byte classes and names (document 02, No. 6). The module has no table of either: here is what one has to hold.
+
+#[derive(Clone, Copy, Debug, PartialEq, Eq)]
+enum Class {
+    Digit,
+    Capital,
+    Space,
+    Quote,
+    Point,
+    AtSign,
+    Control,
+    OtherText,
+}
+
+fn class_of(byte: u8) -> Class {
+    match byte {
+        48..=57 => Class::Digit,
+        65..=90 => Class::Capital,
+        32 => Class::Space,
+        34 => Class::Quote,
+        46 => Class::Point,
+        64 => Class::AtSign,
+        0..=31 => Class::Control,
+        _ => Class::OtherText,
+    }
+}
+
+const NAMES: [&str; 20] =
+    ["@", "D", "DW", "I0", "I1", "I2", "I3", "I4", "I5", "M21", "S", "SI", "SIR", "SR", "T", "TA", "TAC", "TI", "Z", "ZI"];
+
+#[test]
+fn the_classes_have_their_sizes() {
+    use Class::*;
+    let size = |class: Class| (0..=255).filter(|&byte| class_of(byte) == class).count();
+    let sizes = [Digit, Capital, Space, Quote, Point, AtSign, Control, OtherText].map(size);
+    assert_eq!(sizes, [10, 26, 1, 1, 1, 1, 32, 184]);
+    assert_eq!(sizes.iter().sum::<usize>(), 256);
+}
+
+/// What I0 lists, sorted, is each name once.
+#[test]
+fn the_names_stand_in_byte_order() {
+    let told = String::from_utf8(replay(b"on\n> I0\n")).expect("a list");
+    let mut listed: Vec<&str> = told.lines().filter_map(|line| line.strip_prefix("I0 ")?.split('"').nth(1)).collect();
+    assert_ne!(listed, NAMES, "I0 has an order of its own");
+    listed.sort_unstable_by_key(|name| name.as_bytes());
+    assert_eq!(listed, NAMES);
+    assert!(NAMES.windows(2).all(|two| two[0].as_bytes() < two[1].as_bytes()), "each once");
+    let in_names = |byte: u8| matches!(class_of(byte), Class::Digit | Class::Capital | Class::AtSign);
+    assert!(NAMES.iter().all(|name| (1..=3).contains(&name.len()) && name.bytes().all(in_names)));
+}
+
+/// What a line is answered after power-on and a stable sample.
+fn answer_to(line: &[u8]) -> String {
+    let mut state = State { latest: Some(Sample { load: 1000, stable: true }), ..State::default() };
+    let (taken, room) = taken_from(&mut state, &[line, b"\r\n"].concat(), 384);
+    assert_eq!((taken.taken, &state.line), (line.len() + 2, &Line::default()), "{}", line.escape_ascii());
+    String::from_utf8(room[..taken.n].to_vec()).expect("an answer without high bytes")
+}
+
+/// In a text, after a name, as a name, as a number and within one.
+#[test]
+fn the_module_tells_bytes_apart_by_class() {
+    for byte in 0..=255 {
+        let class = class_of(byte);
+        let control = class == Class::Control;
+        let text = if control {
+            "ES\r\n"
+        } else if class == Class::Quote {
+            "D L\r\n"
+        } else {
+            "D A\r\n"
+        };
+        assert_eq!(answer_to(&[b'D', b' ', b'"', byte, b'"']), text, "{byte} in a text");
+        assert_eq!(is_text(&[byte], 1, None), !control && class != Class::Quote, "{byte} in a profile's text");
+        let after_name = if class == Class::Space { "EL\r\n" } else { "ES\r\n" };
+        assert_eq!(answer_to(&[b'D', b'W', byte]), after_name, "{byte} after a name");
+        let alone = answer_to(&[byte]);
+        assert_eq!(alone == "I4 A \"VA-0001\"\r\n", class == Class::AtSign, "{byte} alone");
+        let is_name = class == Class::AtSign || (class == Class::Capital && b"DSTZ".contains(&byte));
+        assert_eq!(alone != "ES\r\n", is_name, "{byte} alone");
+        let wrong = if control { "ES\r\n" } else { "TA L\r\n" };
+        let number = answer_to(&[b'T', b'A', b' ', byte, b' ', b'g']);
+        let digit = format!("TA A     {}.0000 g\r\n", char::from(byte));
+        assert_eq!(number, if class == Class::Digit { &digit } else { wrong }, "{byte} as a number");
+        assert_eq!(typed_number(&[byte], None).is_some(), class == Class::Digit, "{byte} as a number");
+        let within = answer_to(&[b'T', b'A', b' ', b'1', byte, b'5', b' ', b'g']);
+        let due = match class {
+            Class::Point => "TA A     1.5000 g\r\n".to_string(),
+            Class::Digit => format!("TA A   1{}5.0000 g\r\n", char::from(byte)),
+            _ => wrong.to_string(),
+        };
+        assert_eq!(within, due, "{byte} within a number");
+    }
+}
+
+/// Orders 2 and 3 by the classes and the names in byte order alone: ES, EL, or neither.
+fn error_by_classes(line: &[u8]) -> Option<&'static str> {
+    let space = line.iter().position(|&byte| class_of(byte) == Class::Space);
+    let name = &line[..space.unwrap_or(line.len())];
+    let known = NAMES.binary_search_by(|known| known.as_bytes().cmp(name)).map(|at| NAMES[at]);
+    let control = line.iter().any(|&byte| class_of(byte) == Class::Control);
+    match known {
+        Ok("D" | "TA" | "SR" | "M21") if !control => None,
+        Ok(_) if !control => space.map(|_| "EL\r\n"),
+        _ => Some("ES\r\n"),
+    }
+}
+
+#[test]
+fn every_line_is_judged_by_classes_and_names() {
+    for line in parts().concat() {
+        let answer = answer_to(&line);
+        match error_by_classes(&line) {
+            Some(error) if line == b"\r\n" => assert_eq!(answer, error.repeat(2), "two empty lines"),
+            Some(error) => assert_eq!(answer, error, "{}", line.escape_ascii()),
+            None => assert!(!answer.is_empty() && answer != "ES\r\n" && answer != "EL\r\n", "{}", line.escape_ascii()),
+        }
+    }
+}
+
+/// 17 names have one byte or two, and five of them a space behind.
+#[test]
+fn few_short_lines_are_commands() {
+    let lines = short_lines();
+    let (names, others): (Vec<&Vec<u8>>, Vec<&Vec<u8>>) =
+        lines.iter().filter(|line| !answer_to(line).starts_with("ES")).partition(|line| !line.contains(&b' '));
+    assert_eq!(names.len(), NAMES.iter().filter(|name| name.len() < 3).count());
+    assert_eq!(names.len(), 17);
+    assert_eq!(others, [b"@ ", b"D ", b"S ", b"T ", b"Z "]);
+}
+
+#[test]
+fn the_sweeps_of_bytes_hold_every_line() {
+    assert_eq!(short_lines().len(), 1 + 256 + 65_536);
+    let lines = command_lines();
+    assert_eq!((lines.len(), lines[..20].concat().len(), lines.concat().len()), (26, 38, 78));
+    for line in &lines {
+        let n = line.len();
+        assert_eq!(with_a_byte_wrong(line.as_bytes()).len(), 256 * (n + 1) + 256 * n + n, "{line}");
+    }
+    let all = parts().concat();
+    assert_eq!(all.len(), 65_793 + 24_614 + 22_056);
+    for one in
+        [&b"SIRX"[..], b"S\0", b"SI\0", b"M21\0", b"si", b"SIr", b"I", b"M2", b"TA\t1 g", b"TA 1:5 g", b"D \"\"\"", b"\r\n"]
+    {
+        assert!(all.iter().any(|line| line == one), "{}", one.escape_ascii());
+    }
+}
+
+/// No whole buffer of the sweeps stops before its end.
+#[test]
+fn the_sweeps_have_room() {
+    for situation in SITUATIONS {
+        for script in together(situation) {
+            let told = replay(&script_bytes(&script));
+            let last = told.split(|&byte| byte == b'\n').rev().find(|line| !line.is_empty()).expect("a state");
+            assert!(last.starts_with(b"state ") && !told.windows(5).any(|five| five == b"took "), "{}", shown(&told));
+        }
+    }
 }
 
 #[test]

@@ -28,6 +28,11 @@ def weight(head, number, unit="g"):
     return f"{head} {number:>10} {unit}"
 
 
+def coarse(head, number, unit="g"):
+    """The number right aligned in nine characters, and a space as the tenth (No. 7)."""
+    return f"{head} {number:>9}  {unit}"
+
+
 # ---- "Commands carried"
 
 LEVEL_0 = "I0 I1 I2 I3 I4 I5 S SI SIR Z ZI @".split()
@@ -90,7 +95,7 @@ BAD_NUMBERS = [
     # Seven decimals.
     "1.0000000", "0.0000001",
     # Other characters, or good ones in the wrong place.
-    "1,0", "1.0.0", "1 0", "- 1", "1-", "1.0 ", "0x1", "1e1",
+    "1,0", "1.0.0", "1 0", "- 1", "1-", "1.0  ", "0x1", "1e1",
     # Ten spaces.
     "",
 ]
@@ -124,6 +129,52 @@ def weight_spaces():
     lines("S  S     1.0000 g", " S S     1.0000 g", "S S     1.0000  g")
     # No space before the unit, and no unit.
     lines("S S     1.0000g", "S S     1.0000")
+
+
+# ---- Document 02, No. 7: weights in the coarse range
+
+GOOD_COARSE = [
+    # One to five decimals, and nine characters.
+    "0.0", "150.000", "4875.2", "0.00001", "9999999.9", "999.99999",
+    # Below zero: good after S S and S D alone.
+    "-0.001", "-0.1", "-999999.9", "-99.99999",
+]
+BAD_COARSE = [
+    # No decimals, six, and seven.
+    "0", "150", "99999999", "-1", "0.000001", "-0.000001", "0.0000001",
+    # A minus before zero, leading zeros, points without digits, signs.
+    "-0.000", "-0.0", "00.0", "01.5", ".5", "5.", "-.5", "+1.5", "--1.5",
+    # Other characters, and nine spaces.
+    "1,5", "1 5.0", "1.5 ", "1.5e1", "",
+]
+
+
+def coarse_numbers():
+    for number in GOOD_COARSE:
+        for head in WEIGHT_HEADS:
+            lines(coarse(head, number))
+    for number in BAD_COARSE:
+        lines(coarse("S S", number))
+
+
+def coarse_by_unit():
+    # Every head with every unit; the units have 1 to 5 decimals in turn.
+    for head in WEIGHT_HEADS:
+        for place, unit in enumerate(CODES):
+            lines(coarse(head, f"{8:.{1 + place % 5}f}", unit))
+    for unit in BAD_UNITS:
+        lines(coarse("S S", "1.0", unit))
+
+
+def coarse_spaces():
+    # The same number fine, coarse, with a space fewer, more and elsewhere, and with a zero for it.
+    lines(weight("S S", "150.000"), coarse("S S", "150.000"))
+    lines("S S   150.000 g", "S S    150.000  g", "S S  150.000   g", "S S  150.000  g")
+    lines("S S   150.000   g", weight("S S", "150.0000"))
+    # Ten characters before the space, and ten spaces.
+    lines("S S 99999999.9  g", "S S -9999999.9  g", "S S            g")
+    # Other heads.
+    lines(coarse("S A", "1.5"), coarse("SI S", "1.5"), coarse("T D", "1.5"), coarse("ZI S", "1.5"))
 
 
 # ---- "Receiving": the ends of lines
@@ -227,6 +278,8 @@ FORMS = [
     weight("TA A", "0", "GN"),
     weight("S S", "0.01", "kg"),
     weight("T S", "0.03", "lb"),
+    coarse("S S", "150.000"),
+    coarse("TA A", "0.5", "dwt"),
     "Z A", "TAC A", "D A", "DW A",
     "ZI S", "ZI D",
     "S +", "TI -", "TA L", "S L", "I3 I",
@@ -328,6 +381,9 @@ CAPTURE = [
     numbers,
     bad_units,
     weight_spaces,
+    coarse_numbers,
+    coarse_by_unit,
+    coarse_spaces,
     names_and_statuses,
     short_lines,
     near_sr,

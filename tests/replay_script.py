@@ -62,18 +62,23 @@ UNITS = list(CODES)
 
 class Profile(NamedTuple):
     """A profile, and the unit that a part wants in force."""
-    numbers: str
+    numbers: list
     places: dict
     unit: str
 
 
-def profile(c=220_000_000, u=1_000_000, r=4_400_000, w=3, unit="g", d=None, k=None, **others):
-    """Profile A, but for the values that are given; others are decimals and step of a unit."""
+def profile(c=220_000_000, u=1_000_000, r=4_400_000, w=3, unit="g", d=None, k=None, f=None,
+            **others):
+    """Profile A, but for the values that are given; others are decimals and step of a unit.
+
+    The line `profile` sets the fine limit to C; one that is given has a line of its own.
+    """
     places = {name: (4 if name == "g" else 2, 1) for name in UNITS}
     places.update(others)
     decimals, step = places[unit]
     places[unit] = (decimals if d is None else d, step if k is None else k)
-    return Profile(f"profile {c} {u} {r} {w}", places, unit)
+    numbers = [f"profile {c} {u} {r} {w}"] + ([] if f is None else [f"fine {f}"])
+    return Profile(numbers, places, unit)
 
 
 PROFILE_A = profile()
@@ -83,10 +88,10 @@ standing = dict(PROFILE_A.places)
 
 
 def settings(given):
-    """The line of the numbers, and a line for each unit that is not as it stands."""
+    """The lines of the numbers, and a line for each unit that is not as it stands."""
     changed = {unit: row for unit, row in given.places.items() if row != standing[unit]}
     standing.update(changed)
-    return [given.numbers, *(f"unit {unit} {d} {k}" for unit, (d, k) in changed.items())]
+    return [*given.numbers, *(f"unit {unit} {d} {k}" for unit, (d, k) in changed.items())]
 
 
 def small(c=1000, u=0, r=0, **others):
@@ -1564,6 +1569,201 @@ def unit_buffers():
     watch("room 4096", whole(said), "room 384")
 
 
+# ---- Document 02, No. 7: DeltaRange pouches
+
+DELTA = profile(f=100_000_000)
+
+
+def read(*loads):
+    """Each load as a stable sample, and what S tells of it."""
+    for load in loads:
+        play(f"s {load}", "> S")
+
+
+def range_limits():
+    part("DeltaRange. Above F is strict, in micrograms: at F and a microgram above it.")
+    power_on(DELTA)
+    read(100_000_000, 100_000_001, 100_000_049, 100_000_499, 100_000_500, 99_999_951)
+    play("u 100000000", "> SI", "u 100000001", "> SI")
+    # F 0: a gross of 0 or below is fine.
+    power_on(profile(f=0))
+    read(0, -1, -1_000_000, 1, 499, 500)
+    play("> TAC", "s 0", "> T", "s 1", "> T", "> TA")
+    # F 1, a microgram below C, and C.
+    for f in (1, 219_999_999, 220_000_000):
+        power_on(profile(f=f))
+        read(1, 2, 219_999_999, 220_000_000, 220_000_001, -1_000_001)
+        play("s 220000000", "> T", "> TA")
+
+
+def range_deciding():
+    part("Gross decides, and net is printed; in the answers of T, TI and TA the tare decides.")
+    power_on(DELTA)
+    play("s 150000000", "> T")
+    read(150_000_500, 10_000_000, 100_000_000, 100_000_001)
+    # A tare of 50 g under a gross of 200 g, and one of 150 g over a gross of 10 g.
+    play("s 50000000", "> T", "s 200000000", "> TA", "> SI", "> TA 50 g")
+    play("s 150000000", "> TI", "u 10000000", "> TA", "> SI", "> TA 150 g", "> TAC", "> TA")
+    # A tare at F and a microgram above it.
+    for load in (100_000_000, 100_000_001):
+        play(f"s {load}", "> T", "> TA", f"u {load}", "> TI", "> TA")
+    # Gross is the load less zero.
+    for zero in (4_000_000, -4_000_000):
+        play("> @", f"s {zero}", "> Z")
+        read(100_000_000 + zero, 100_000_001 + zero)
+    # No tare is coarse before a sample, save for a typed one.
+    power_on(DELTA)
+    play("> TA", "> TA 150 g", "> TA")
+
+
+def range_rounding():
+    part("One rounding, to multiples of ten steps, and no minus before zero.")
+    power_on(DELTA)
+    play("s 150000000", "> T")
+    for net in (1_450, 1_499, 1_500, 500, 499, -499, -500, -1_499, -1_500):
+        read(150_000_000 + net)
+    for k in (2, 5):
+        power_on(profile(k=k, f=100_000_000))
+        play("s 150000000", "> T")
+        for half in (500 * k, 1_500 * k):
+            read(*(150_000_000 + net for net in (half - 1, half, 1 - half, -half)))
+    # Two decimals, of which one is left, and six, of which five are.
+    power_on(profile(d=2, f=100_000_000))
+    read(100_000_000, 149_949_999, 149_950_000)
+    power_on(small(c=99_999_994, d=6, f=5))
+    read(5, 6, 14, 15, 99_999_994)
+    # Nine characters below zero.
+    power_on(small(c=99_999_994, unit="mg", d=3, f=0))
+    play("s 99999994", "> T")
+    read(1, 0)
+
+
+def range_waits():
+    part("The range is that of the sample which is judged: waits, SIR, whole buffers, rooms.")
+    power_on(DELTA)
+    play("u 150000000", "> S", "s 50000000", "u 50000000", "> T", "s 150000000")
+    play("u 150000000", "> SIR", "s 99999951", "u 100000001", "s 100000000", "s 0", "> SI")
+    watch("s 150000000", whole("SI\r\nT\r\nTA\r\nTA 100.0004 g\r\nSI\r\nTA 220.0005 g\r\n"))
+    watch("room 17", "> SI", "room 18", LF)
+    watch("room 35", whole("SI\r\nSI\r\n"), "room 18", whole("\n"), "room 384")
+    # @ and a power-on keep the profile.
+    play("> @", "> SI", "on", "s 150000000", "> SI")
+
+
+def range_typed():
+    part("A typed number above F, exact and before any rounding, is rounded to the coarse step; "
+         "the stored tare decides how it is told.")
+    power_on(DELTA)
+    watch("> TA 100.00004 g", "> TA 100.0004 g", "> TA 100.000499 g", "> TA 100.0005 g")
+    watch("> TA 100.0000 g", "> TA 100.000001 g", "> TA 99.99995 g", "> TA 99.999949 g")
+    watch("> TA 220.0004 g", "> TA 220.000499 g", "> TA 220.0005 g", "> TA 9999999999 g")
+    # With F = C; a microgram below it, where F is typed and stored above itself.
+    power_on(profile(f=220_000_000))
+    watch("> TA 220.0004 g", "> TA 220.000049 g", "> TA 220.00005 g")
+    power_on(profile(f=219_999_999))
+    watch("> TA 219.999999 g", "> TA 220 g", "> TA 220.000499 g", "> TA 220.0005 g")
+    # F between two fine steps.
+    power_on(profile(f=100_000_050))
+    watch("> TA 100.00005 g", "> TA 100.000049 g", "> TA 100.000051 g")
+    power_on(profile(f=0))
+    watch("> TA 0 g", "> TA 0.000499 g", "> TA 0.0005 g", "> TA 0.001499 g")
+    power_on(profile(k=5, f=100_000_000))
+    watch("> TA 100.002499 g", "> TA 100.0025 g", "> TA 100.0075 g")
+    # What gross decides nothing of.
+    power_on(DELTA)
+    play("s 150000000", "> TA 50.0001 g", "s 50000000", "> TA 150.0001 g", "> TA 50.0001 g")
+
+
+def range_typed_ounces():
+    part("F beside a typed number that is no whole microgram: 1 oz is 28,349,523.125 micrograms.")
+    for f in (28_349_523, 28_349_524):
+        power_on(profile(unit="oz", d=5, f=f))
+        watch("> TA 1.00000 oz", "> TA 1.00004 oz", "> TA 1.00005 oz")
+    # 1.00002 oz are 28,350,090.1154625.
+    for f in (28_350_090, 28_350_091):
+        power_on(profile(unit="oz", d=5, f=f))
+        watch("> TA 1.00002 oz", "> TA 1.000019 oz")
+    # Halfway between two micrograms in every unit that can be.
+    for unit, d, halves, micrograms in SECOND_TIES:
+        for f in (micrograms - 1, micrograms):
+            power_on(profile(unit=unit, d=d, f=f))
+            watch(*typed_halves(halves, unit, d, 1))
+
+
+def range_on_change():
+    part("SR goes on counting fine steps and keeps the exact net; its number is rounded to none.")
+    power_on(profile(f=0))
+    watch("s 0", "> SR", "s 2999", "s 3000", "s 5999", "s 6000")
+    watch("> @", "s 1450", "> SR", "s 4449", "s 4450")
+    power_on(profile(f=1000))
+    watch("s 0", "> SR 0.001449 g", "s 1448", "s 1449")
+    # A change of range is none of net.
+    power_on(DELTA)
+    watch("s 100000000", "> T", "> SR", "s 100000001", "s 100002999", "s 100003000", "u 100000000")
+    watch("s 100000000", "u 220000001", "s 150000000")
+
+
+def range_units():
+    part("F is micrograms, whichever unit is in force.")
+    power_on(DELTA)
+    for unit in UNITS:
+        play(set_unit(unit), "> TAC")
+        read(100_000_000, 100_000_001, 150_000_000)
+        play("> T", "> TA")
+    for sent in (set_unit("g"), "> TA 100.0005 g", set_unit("ct"), "> TA", "> TA 500.04 ct"):
+        watch(sent)
+    watch(set_unit("g"), "> TA", set_unit("ct"), "> TA 500.05 ct", set_unit("g"), "> TA")
+
+
+def range_profiles():
+    part("The profile: F from 0 to C; below C two decimals in each unit, and each net fits coarse.")
+    for f in (0, 219_999_999, 220_000_000, 220_000_001, 4_294_967_295):
+        switch_on(profile(f=f))
+    for c, f in ((0, 0), (1, 0), (1, 1), (1, 2)):
+        switch_on(small(c=c, f=f))
+    # mg: with three decimals the lower end decides.
+    for f in (99_999_999, 99_999_998):
+        switch_on(small(c=99_999_999, mg=(3, 1), f=f))
+    for c in (99_999_994, 99_999_995):
+        switch_on(small(c=c, mg=(3, 1), f=0))
+    for u in (9_999_994, 9_999_995):
+        switch_on(small(c=90_000_000, u=u, mg=(3, 1), f=0))
+        switch_on(small(c=90_000_000, u=u, mg=(3, 1)))
+    # g in steps of two, and GN: 999.9999 GN are 64,798,903.5 micrograms.
+    for c in (99_999_989, 99_999_990):
+        switch_on(small(c=c, d=6, k=2, f=0))
+    for c in (64_798_903, 64_798_904):
+        switch_on(small(c=c, GN=(5, 2), f=5))
+    # The largest U + C beside a coarse range, which mg with two decimals leaves.
+    for c in (999_999_949, 999_999_950):
+        switch_on(small(c=c, f=c - 1))
+    # Each unit with too few decimals, with a coarse range and without.
+    for unit in UNITS:
+        for d in (0, 1, 2):
+            for f in (0, 219_999_999, 220_000_000):
+                switch_on(profile(**{unit: (d, 1)}, f=f))
+
+
+def range_refusals():
+    part("Refused by 1 at each call, and nothing is changed.")
+    power_on()
+    play("s 5000", "> TI", "fine 220000001", "s 1", good("S"), whole("S"), whole("S", word="w-"))
+    play("on", "fine 220000000", "state", "> TA")
+    play(profile(f=100_000_000), "s 150000000", "unit lb 1 1", "> SI", "unit lb 2 1", "> SI")
+    play("unit lb 1 1", "fine 220000000", "> SI", "unit lb 2 1")
+    # F moved to the tare, below it and back.
+    play("> TI", "fine 150000000", "> TA", "> SI", "fine 149999999", "> TA", "> SI")
+
+
+def range_lines():
+    part("`profile` sets F to C, and no other line does.")
+    power_on(DELTA)
+    play("s 150000000", "> SI", "unit g 4 1", "> SI", "text 2 x", "> SI", "room 384", "> SI")
+    play("# fine 220000000", "fine x", "> SI", "profile 1 1 1", "> SI", "text 2 ")
+    play(PROFILE_A, "> SI", profile(c=160_000_000), "> SI", "fine 100000000", "> SI")
+    play("fine 160000001", "> SI", PROFILE_A, "> SI")
+
+
 def conversation():
     part("Document 01's conversation.")
     power_on()
@@ -1611,6 +1811,10 @@ def other_lines():
     play("unit G 4 1", "unit gn 4 1", "unit KG 4 1", "unit k 4 1", "unit lbs 4 1", "unit 0 4 1")
     play("unit g 256 1", "unit g 4 256", "unit g -1 1", "unit g 4 -1", "unit g 4 x", "unit g x 1")
     play("unit g 00000000004 1", "unit g 4 00000000001", "unit g 4294967296 1", "unit g 4 1\r")
+    # Fine limits: one value of 32 bits.
+    play("fine", "fine ", "fine x", "fine -1", "fine +1", "fine 1 ", "fine  1", "fine 1 1")
+    play("fine 1.0", "fine 4294967296", "fine 9999999999", "fine 00000000001", "fine 1\r")
+    play("fine\t1", "Fine 1", "FINE 1", "fines 1", "fin 1", "fine1", " fine 1")
     # A comment not at the line's start, words with no space after them, no words.
     play(" # no comment", "s1", "u-1", ">S", "bb 53", "quit")
 
@@ -1624,6 +1828,7 @@ def good_forms():
     play("s 0000000007", "s -0", "s -0000000007", "> SI")
     play("room 4096", "room 0384", "profile 0220000000 01000000 04400000 03", "> TA")
     play("unit g 04 01", "unit g 0000000004 0000000001", "unit kg 002 001", "> TA")
+    play("fine 0220000000", "> TA")
 
 
 def comments_and_last_line():
@@ -1637,10 +1842,10 @@ def comments_and_last_line():
 
 
 def head():
-    play("# Plays every rule of document 01 once, and document 02's No. 1, 2, 3 and 5. "
+    play("# Plays every rule of document 01 once, and document 02's No. 1, 2, 3, 5 and 7. "
          "Its stdout is what the independent implementation prints for it.")
     play("# Profile A stands at the start: C 220 g, U 1 g, R 4.4 g, W 3, g with 4 decimals and the "
-         "eight others with 2, step 1, I4 VA-0001, the other texts empty.")
+         "eight others with 2, step 1, F = C, I4 VA-0001, the other texts empty.")
 
 
 SCRIPT = [
@@ -1736,6 +1941,18 @@ SCRIPT = [
     unit_refusals,
     unit_rooms,
     unit_buffers,
+    # DeltaRange pouches.
+    range_limits,
+    range_deciding,
+    range_rounding,
+    range_waits,
+    range_typed,
+    range_typed_ounces,
+    range_on_change,
+    range_units,
+    range_profiles,
+    range_refusals,
+    range_lines,
     # The profile.
     text_lengths,
     text_bytes,

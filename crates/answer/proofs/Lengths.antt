@@ -40,11 +40,11 @@ status-length Over = refl
 status-length Under = refl
 
 -- the field is ten characters, also of a number that does not fit
-field-ten : (d : ℕ) (n : ℤ) → length (fieldIf (fitsField d n) d n .cells) ≡ 10
-field-ten d n = go (fitsField d n) refl
+field-ten : (c : Bool) (d : ℕ) (n : ℤ) → length (fieldIf (fitsField c d n) c d n .cells) ≡ 10
+field-ten c d n = go (fitsField c d n) refl
   where
-    go : (b : Bool) → fitsField d n ≡ b → length (cond b (fieldOf d n) blank) ≡ 10
-    go true e = field-length d n e
+    go : (b : Bool) → fitsField c d n ≡ b → length (cond b (fieldOf c d n) blank) ≡ 10
+    go true e = field-length c d n e
     go false e = refl
 
 -- a space and a status after a name
@@ -61,7 +61,7 @@ with-unit f u h = omega (arith, length-append f (32 ∷ []), length-append (f ++
 number-length : (n : Number) → length (weightText n) ≡ length (unitText (n .unit)) + 11
 unfolding weightText
 number-length n =
-    with-unit (fieldIf (fitsField (n .decimals) (n .places .0)) (n .decimals) (n .places .0) .cells) (unitText (n .unit)) (field-ten (n .decimals) (n .places .0))
+    with-unit (fieldIf (fitsField (n .coarse) (n .decimals) (n .places .0)) (n .coarse) (n .decimals) (n .places .0) .cells) (unitText (n .unit)) (field-ten (n .coarse) (n .decimals) (n .places .0))
 
 quoted-length : (t : List ℕ) → length (quoted t) ≡ length t + 2
 quoted-length t = omega (arith, length-append t (34 ∷ []))

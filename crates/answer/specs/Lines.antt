@@ -45,10 +45,10 @@ statusText Under = ascii "-"
 unfoldable pub headText : Head → List ℕ
 headText h = nameOf (h .identification) ++ ascii " " ++ statusText (h .status)
 
--- ten characters, space, unit; ten spaces for a number that does not fit
+-- ten characters, of which the last is a space in the coarse range, space, unit; ten spaces for a number that does not fit
 unfoldable pub weightText : Number → List ℕ
 weightText n =
-    fieldIf (fitsField (n .decimals) (n .places .0)) (n .decimals) (n .places .0) .cells ++ ascii " " ++ unitText (n .unit)
+    fieldIf (fitsField (n .coarse) (n .decimals) (n .places .0)) (n .coarse) (n .decimals) (n .places .0) .cells ++ ascii " " ++ unitText (n .unit)
 
 abbrev pub errorText : Error → List ℕ
 errorText Syntax = ascii "ES"

@@ -22,11 +22,12 @@ pub struct Head {
     pub status: Status,
 }
 
-// A printed weight.
+// A printed weight, and whether it is one of the coarse range (document 02, No. 7).
 pub struct Number {
     pub decimals: u8,
     pub places: LastPlaces,
     pub unit: WeightUnit,
+    pub coarse: bool,
 }
 
 // Syntax, transmission, logical: the lines ES, ET and EL.

@@ -22,11 +22,10 @@ use Rattle.weighing.specs.declared.weighing.Measured.{Measured}
 use Rattle.model.specs.declared.weighing.Weighing.{Weighing}
 use Rattle.commands.specs.Reactions.{changing, informed, modeAfter, run, runAs, sendingAs, showing, showingWeight, taring, unanswered, unitTold, weighing, zeroing}
 use Rattle.model.specs.Groups.{reaction, withSending, withWeighing}
-use Rattle.model.specs.Profiles.{resolutionIn, scaleOf}
+use Rattle.model.specs.Profiles.{scaleOf}
 use Rattle.waiting.specs.Changes.{withThreshold}
 use Rattle.waiting.specs.Waits.{begunBy, measuredReaction}
 use Rattle.answer.specs.Lines.{headOf}
-use Rattle.weight.specs.declared.rounding.Resolution.{Resolution}
 use Rattle.weighing.specs.Weighings.{stability, tareAnswer, taredBy, weighedBy, withTare, zeroedBy}
 
 -- D and DW
@@ -122,7 +121,7 @@ module _ (p : Profile) (s : State) (c : ℕ) {r : Reaction} where
   taring-cleared t ti tac w v a e = rw (e, v, w, a, ne-eqb c placeT t, ne-eqb c placeTI ti, eq-eqb c placeTAC tac)
 
   module _ (t : c ≡ placeT → ⊥) (ti : c ≡ placeTI → ⊥) (tac : c ≡ placeTAC → ⊥) where
-    pub taring-asked : {k : Resolution} {a : Answer} → c ≡ placeTA → k ≡ resolutionIn p (s .weighing) → a ≡ tareAnswer k (s .weighing .tare .0) → r ≡ reaction s a
+    pub taring-asked : {k : Scale} {a : Answer} → c ≡ placeTA → k ≡ scaleOf p (s .weighing) → a ≡ tareAnswer k (s .weighing .tare .0) → r ≡ reaction s a
         → r ≡ taring p s c
     unfolding taring
     taring-asked ta k a e = rw (e, a, k, ne-eqb c placeT t, ne-eqb c placeTI ti, ne-eqb c placeTAC tac, eq-eqb c placeTA ta)

@@ -20,7 +20,7 @@ use Rattle.model.specs.declared.sending.Mode.{Mode}
 use Rattle.model.specs.declared.sending.Mode.the-variants.{Off, EachSample, OnChange}
 use Rattle.model.specs.declared.state.Pending.the-variants.{Weigh, Zero, Tare}
 use Rattle.model.specs.declared.state.State.{State}
-use Rattle.model.specs.Profiles.{resolutionIn}
+use Rattle.model.specs.Profiles.{scaleOf}
 use Rattle.model.specs.States.{isPending}
 use Rattle.model.specs.declared.react.Reaction.{Reaction}
 use Rattle.model.specs.Groups.{chosenReaction, reaction, withWeighing, withWaiting, withSending, notWaiting}
@@ -103,7 +103,7 @@ module _ (P : Reaction → Type 0) (p : Profile) (s : State) (c : ℕ) (r : Rule
       → (c ≡ placeT → P (begun p s Tare))
       → (needsSample c ≡ true → P (measuredReaction s (tared p (s .weighing) placeTI)))
       → P (reaction (withWeighing s (withTare (s .weighing) 0)) (Plain (headOf placeTAC A)))
-      → (c ≡ placeTA → P (reaction s (tareAnswer (resolutionIn p (s .weighing)) (s .weighing .tare .0))))
+      → (c ≡ placeTA → P (reaction s (tareAnswer (scaleOf p (s .weighing)) (s .weighing .tare .0))))
       → P (taring p s c)
   unfolding taring
   taring-ways e begins tares clears tells =
@@ -134,7 +134,7 @@ module _ (P : Reaction → Type 0) (p : Profile) (s : State) (c : ℕ) (r : Rule
       → (c ≡ placeT → P (begun p s Tare))
       → (needsSample c ≡ true → P (measuredReaction s (tared p (s .weighing) placeTI)))
       → P (reaction (withWeighing s (withTare (s .weighing) 0)) (Plain (headOf placeTAC A)))
-      → (c ≡ placeTA → P (reaction s (tareAnswer (resolutionIn p (s .weighing)) (s .weighing .tare .0))))
+      → (c ≡ placeTA → P (reaction s (tareAnswer (scaleOf p (s .weighing)) (s .weighing .tare .0))))
       → (c ≡ placeM21 → P (unitTold s))
       → P (run p s c)
   unfolding run

@@ -25,7 +25,7 @@ use Rattle.model.specs.declared.state.Pending.the-variants.{Weigh, Zero, Tare}
 use Rattle.model.specs.declared.state.Pending.the-variants as pendings
 use Rattle.model.specs.declared.state.Display.{Display}
 use Rattle.model.specs.declared.state.State.{State}
-use Rattle.model.specs.Profiles.{resolutionIn}
+use Rattle.model.specs.Profiles.{resolutionIn, scaleOf}
 use Rattle.model.specs.States.{isPending}
 use Rattle.model.specs.declared.react.Reaction.{Reaction}
 use Rattle.model.specs.Groups.{withLine, withWeighing, withSending, withMode, withDisplay, reaction, chosenReaction, notWaiting}
@@ -87,7 +87,7 @@ taring p s c =
     (chosenReaction (isTI c) (measuredReaction s (tared p (s .weighing) placeTI))
     (chosenReaction (isTAC c)
     (reaction (withWeighing s (withTare (s .weighing) 0)) (Plain (headOf placeTAC A)))
-    (chosenReaction (isTA c) (reaction s (tareAnswer (resolutionIn p (s .weighing)) (s .weighing .tare .0))) (unanswered s))))
+    (chosenReaction (isTA c) (reaction s (tareAnswer (scaleOf p (s .weighing)) (s .weighing .tare .0))) (unanswered s))))
 
 -- M21 alone: the unit in force
 abbrev pub unitTold : State → Reaction
@@ -137,7 +137,7 @@ performed p s l (Busy c) = reaction s (Plain (headOf (identificationOf c) I))
 performed p s l (Wrong c) = reaction s (Plain (headOf (identificationOf c) L))
 performed p s l (NoSample c) = reaction s (Plain (headOf (identificationOf c) I))
 performed p s l (Run c) = run p s c
-performed p s l (Preset m) = reaction (withWeighing s (withTare (s .weighing) (m .0))) (tareAnswer (resolutionIn p (s .weighing)) (m .0))
+performed p s l (Preset m) = reaction (withWeighing s (withTare (s .weighing) (m .0))) (tareAnswer (scaleOf p (s .weighing)) (m .0))
 performed p s l (Change t) = changing p s (t .0)
 performed p s l (Show n) = reaction (withDisplay s (textShown (s .display) l n)) (Plain (headOf placeD A))
 performed p s l (Select u) = reaction (withWeighing s (withUnit (s .weighing) u)) (Plain (headOf placeM21 A))
@@ -149,6 +149,7 @@ abbrev pub situationOf : Profile → State → Situation
 situationOf p s =
     record {
       capacity = p .capacity;
+      fine = p .fine;
       resolution = resolutionIn p (s .weighing);
       waiting = isPending (s .waiting .pending);
       sampled = s .weighing .sampled;

@@ -8,7 +8,7 @@ ghost use Rattle.answer.specs.Commands.{placeD, placeM21};
 ghost use Rattle.commands.specs.Shown.{showsShort};
 ghost use Rattle.commands.specs.Reactions as meaning;
 ghost use Rattle.model.specs.Groups as groups;
-ghost use Rattle.model.specs.Profiles.{resolutionIn};
+ghost use Rattle.model.specs.Profiles.{scaleOf};
 ghost use Rattle.answer.specs.Lines as lines;
 ghost use Rattle.weighing.specs.Weighings as weights;
 use crate::run::run;
@@ -139,12 +139,12 @@ fn show_text(state: State, line: Line, len: u8) -> Reaction
 
 // TA with a number.
 fn preset(profile: Profile, state: State, tare: Tare) -> Reaction
-    ensures { λ r. ⌜ r ≡ groups.reaction (groups.withWeighing state (weights.withTare (state .weighing) (tare .0))) (weights.tareAnswer (resolutionIn profile (state .weighing)) (tare .0)) ⌝ }
+    ensures { λ r. ⌜ r ≡ groups.reaction (groups.withWeighing state (weights.withTare (state .weighing) (tare .0))) (weights.tareAnswer (scaleOf profile (state .weighing)) (tare .0)) ⌝ }
 {
     let weighing = state.weighing;
     answered(
         with_weighing(state, with_tare(weighing, tare)),
-        tare_answer(resolution_in(profile, weighing), tare),
+        tare_answer(scale_of(profile, weighing), tare),
     )
 }
 
@@ -192,6 +192,7 @@ fn situation_of(profile: Profile, state: State) -> Situation
     let pending = waiting.pending;
     Situation {
         capacity: profile.capacity,
+        fine: profile.fine,
         resolution: resolution_in(profile, weighing),
         waiting: is_pending(pending),
         sampled: weighing.sampled,

@@ -26,7 +26,6 @@ use model::Profile;
 use model::Reaction;
 use model::State;
 use model::answered;
-use model::resolution_in;
 use model::scale_of;
 use model::with_display;
 use model::with_mode;
@@ -181,7 +180,7 @@ fn run_taring(profile: Profile, state: State, command: u8) -> Reaction
     }
     if command == TA {
         let tare = weighing.tare;
-        return answered(state, tare_answer(resolution_in(profile, weighing), tare));
+        return answered(state, tare_answer(scale_of(profile, weighing), tare));
     }
     unanswered(state)
 }

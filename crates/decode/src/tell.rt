@@ -65,9 +65,16 @@ fn aligned(field: &[u8]) {
 
 // As a field with no decimals, which holds every number that a field with some holds.
 fn whole(places: LastPlaces) {
-    let field = text::field_of(0, places);
+    let field = text::field_of(0, places, false);
     let bytes = field.cells;
     aligned(&bytes);
+}
+
+// The range that the weight was printed in: a word for the coarse one alone.
+fn range(coarse: bool) {
+    if coarse {
+        text(b" coarse");
+    }
 }
 
 fn weight(head: Head, number: Number) {
@@ -84,6 +91,7 @@ fn weight(head: Head, number: Number) {
     io::print_decimal(1, number.decimals as u64);
     space();
     short(text::unit_text(measure));
+    range(number.coarse);
     end();
 }
 

@@ -3,7 +3,7 @@
 use Prim.Native.Nat.{ℕ}
 use Prim.Native.String.{String}
 use mathlib.Core.Path.{_≡_, refl}
-use mathlib.Core.Bool.{true}
+use mathlib.Core.Bool.{true, false}
 use mathlib.Core.List.{List, [], _∷_, _++_, map}
 use lib.IntN.{ℤ, pos, negsuc}
 use Rattle.answer.specs.Lines.{lineEnd, headText, weightText, lineOf}
@@ -59,7 +59,7 @@ cases =
 
 -- profile A with the case's decimals and step in its unit, which is in force
 abbrev pub profileOf : Case → Profile
-profileOf c = profileWith (record { unit = c .unit; decimals = c .decimals; step = c .step })
+profileOf c = profileWith (record { unit = c .unit; decimals = c .decimals; step = c .step; coarse = false })
 
 abbrev pub weighingOf : Case → Weighing
 weighingOf c =

@@ -38,7 +38,7 @@ unfolding headText
 weight-pieces h w b e = record { whole = weight-shape (nameOf (h .identification)) (statusText (h .status)) w b e }
 
 -- the field, a space, the unit
-pub number-pieces : (n : Number) (f : Field) (u : ShortText) → f ≡ fieldIf (fitsField (n .decimals) (n .places .0)) (n .decimals) (n .places .0)
+pub number-pieces : (n : Number) (f : Field) (u : ShortText) → f ≡ fieldIf (fitsField (n .coarse) (n .decimals) (n .places .0)) (n .coarse) (n .decimals) (n .places .0)
     → u ≡ shortOf (unitText (n .unit)) → Three (f .cells) (32 ∷ []) (textOf u) (weightText n)
 unfolding weightText
 number-pieces n f u e k = record { whole = rw (cells-text u (unitText (n .unit)) k, e) }

@@ -93,7 +93,7 @@ fn put_number(out: &mut [u8], at: usize, number: Number) -> usize
 {
     let places = number.places;
     let unit = number.unit;
-    let field = field_of(number.decimals, places);
+    let field = field_of(number.decimals, places, number.coarse);
     let cells = field.cells;
     let text = unit_text(unit);
     let gap = put(out, at, &cells);

@@ -34,9 +34,9 @@ module _ (h : Head) (n : Number) (t : List ℕ) (form : canForm (Weight h n) t �
   pub weight-head : weightForm (h .identification) (h .status) ≡ true
   weight-head = both-left (weightForm (h .identification) (h .status)) (numberForm (h .identification) n) weight-front
 
-  pub weight-fits : fitsField (n .decimals) (n .places .0) ≡ true
+  pub weight-fits : fitsField (n .coarse) (n .decimals) (n .places .0) ≡ true
   weight-fits =
-      both-left (fitsField (n .decimals) (n .places .0)) (isS (h .identification) || nonNeg (n .places .0))
+      both-left (fitsField (n .coarse) (n .decimals) (n .places .0)) (isS (h .identification) || nonNeg (n .places .0))
       (both-right (weightForm (h .identification) (h .status)) (numberForm (h .identification) n) weight-front)
 
 module _ (c : ℕ) (t : List ℕ) (form : canForm (Text c) t ≡ true) where

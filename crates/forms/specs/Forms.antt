@@ -46,9 +46,9 @@ weightForm c L = false
 weightForm c Over = false
 weightForm c Under = false
 
--- 0 to 6 decimals, fits the field; the last four not negative
+-- 0 to 6 decimals, coarse 1 to 5, fits the field; the last four not negative
 abbrev pub numberForm : ℕ → Number → Bool
-numberForm c n = fitsField (n .decimals) (n .places .0) && (isS c || nonNeg (n .places .0))
+numberForm c n = fitsField (n .coarse) (n .decimals) (n .places .0) && (isS c || nonNeg (n .places .0))
 
 -- ---- texts
 

@@ -86,7 +86,7 @@ fn number_form(command: u8, number: Number) -> bool
     ensures { λ r. ⌜ r ≡ numberForm command number ⌝ }
 {
     let places = number.places;
-    fits(number.decimals, places) & ((command == S) | !is_below_zero(places))
+    fits(number.decimals, places, number.coarse) & ((command == S) | !is_below_zero(places))
 }
 
 // The texts of I2 and I3 may be longer than those of I4 and I5.

@@ -2,10 +2,11 @@
 -- a line ends and where a sample ends a wait.
 -- Assumes nothing.
 use Prim.Native.Nat.{ℕ, _≤_}
-use mathlib.Core.Path.{_≡_, refl, sym, ap, _∙_}
+use mathlib.Core.Path.{_≡_, refl, sym, ap, ap₂, subst, _∙_}
 use mathlib.Core.Bool.{Bool, true, false, not, _||_, and-false, or-true}
 use mathlib.Core.List.{List}
-use lib.IntN.{pos, negℤ, natAbs}
+use borrow.Author.Tests.{le-ltb}
+use lib.IntN.{ℤ, pos, negℤ, natAbs}
 use lib.Signed.{ltZ}
 use Rattle.answer.specs.Commands.{placeM21, placeS, placeTAC}
 use Rattle.answer.specs.declared.answer.Answer.the-variants.{Plain, Weight}
@@ -16,25 +17,26 @@ use Rattle.model.specs.declared.weighing.Weighing.{Weighing}
 use Rattle.weighing.proofs.InForce.{resolution-tared}
 use Rattle.weighing.proofs.Reach.{between}
 use Rattle.answer.specs.Lines.{headOf}
-use Rattle.weighing.specs.Weighings.{stability, grossOf, netOf, numberIn, inLimits, chosenWeighing, weighed, zeroed, tared, withZero, withTare, withUnit, tareAnswer, zeroedBy, weighedBy, taredBy}
+use Rattle.weighing.specs.Weighings.{stability, grossOf, netOf, numberIn, resolutionBy, inLimits, chosenWeighing, weighed, zeroed, tared, withZero, withTare, withUnit, tareAnswer, zeroedBy, weighedBy, taredBy}
 use Rattle.device.specs.Calls.{answerBytes}
-use Rattle.model.specs.Profiles.{profileAllowed, resolutionIn}
+use Rattle.model.specs.Profiles.{profileAllowed, resolutionIn, scaleOf}
 use Rattle.text.specs.Ascii.{ascii, sameText}
 use Rattle.text.specs.Field.{fieldOf}
 use Rattle.text.specs.Reading.{isDecimal}
 use Rattle.weight.specs.declared.rounding.Resolution.{Resolution}
 use Rattle.weight.specs.declared.units.WeightUnit.{WeightUnit}
-use Rattle.weight.specs.Rounding.{exactFemtograms, halfUp, placesOf, Near}
+use Rattle.weight.specs.Ranges.{resolutionAt}
+use Rattle.weight.specs.Rounding.{exactFemtograms, halfUp, placesOf, printedFemtograms, Near}
 use Rattle.weight.specs.Printing.{printable}
-use Rattle.model.proofs.InForce.{allowed-in-force}
+use Rattle.model.proofs.InForce.{allowed-at}
 use Rattle.weight.proofs.HalfStep.{rounded-exact}
 use Rattle.text.proofs.Named.{same-self}
 use Rattle.weight.proofs.Nearness.{near-refl}
-use Rattle.history.specs.Tally.{Tally, Input, inForce, taken, ends, ended, endedText, isUnitLine, unitSet, typedText, typedTare, tenOf, tellsTare, grantsTyped, afterReset, tallied, holds}
+use Rattle.history.specs.Tally.{Tally, Input, inForce, inForceAt, allowance, taken, ends, ended, endedText, isUnitLine, unitSet, typedText, typedTare, tenOf, tellsTare, grantsTyped, afterReset, tallied, holds}
 use Rattle.history.specs.TypedTares.{typedField, showsTyped}
 use Rattle.history.proofs.AnswerKinds.{Denied, Silent, Zeroes, Tares, Weighs, over-denied, under-denied, weighed-weighs, cleared-clears, selected-sets, told-tells}
 use Rattle.history.proofs.DueWeights.{net-printable, gross-printable, tare-printable}
-use Rattle.history.proofs.Following.{Follows, is-loaded, latest-is, gross-is, net-near, same-in-force, tare-near}
+use Rattle.history.proofs.Following.{Follows, is-loaded, latest-is, gross-is, net-force, net-near, same-in-force, tare-force, tare-near}
 use Rattle.history.proofs.InForce.{in-force-taken}
 use Rattle.history.proofs.Tallying.{after-denied, after-zeroes, after-tares, after-clears, after-sets, after-typed, after-told, after-weighs, silent-holds, denied-holds, zeroes-holds, clears-holds, sets-holds, weighs-holds, tares-holds, told-holds, typed-holds}
 use Rattle.history.proofs.SentAnswers.{in-limits}
@@ -56,9 +58,9 @@ unfolding showsTyped
 alone-shown p t i l e = rw (e, and-false (tellsTare l))
 
 -- the ten characters that are due
-due-shown : (p : Profile) (t : Tally) (i : Input) (l : List ℕ) → tenOf l ≡ typedField (inForce p t) (endedText t i) → showsTyped p t i l ≡ true
+due-shown : (p : Profile) (t : Tally) (i : Input) (l : List ℕ) → tenOf l ≡ typedField p (inForce p t) (endedText t i) → showsTyped p t i l ≡ true
 unfolding showsTyped
-due-shown p t i l e = rw (e, same-self (typedField (inForce p t) (endedText t i))) (or-true (not (grantsTyped t i l)))
+due-shown p t i l e = rw (e, same-self (typedField p (inForce p t) (endedText t i))) (or-true (not (grantsTyped t i l)))
 
 -- an answer that grants and weighs nothing
 pub answered-silent : (p : Profile) (t : Tally) (i : Input) (w : Weighing) (l : List ℕ) → Follows w (afterReset t i (taken t i)) → Silent l → Answered p t i w l
@@ -148,19 +150,27 @@ module _ (p : Profile) (t : Tally) (i : Input) (w : Weighing) (not-reset : after
   -- ---- weights
 
   module _ (allowed : profileAllowed p ≡ true) where
+    -- the resolution in force by gross, and by a tare
+    abbrev at-gross : Resolution
+    at-gross = resolutionBy (scaleOf p w) (grossOf w)
+
+    abbrev at-tare : ℕ → Resolution
+    at-tare tare = resolutionBy (scaleOf p w) (pos tare)
+
     -- a net that is printed
     net-told
         : (l : List ℕ)
         → Weighs l
-        → Shows (resolutionIn p w) (netOf w) l
+        → Shows at-gross (netOf w) l
+        → ltZ (pos (p .capacity)) (grossOf w) ≡ false
         → w .sampled ≡ true
         → Answered p t i w l
-    net-told l k s sampled =
+    net-told l k s within sampled =
         let g : Follows w (tallied p t i l) = rw (after-weighs p t i l k, not-reset) f in
         record {
           accepted =
-              weighs-holds p t i l (resolutionIn p w) (same-in-force p w (tallied p t i l) g) (netOf w) s
-              (rw (k .net-is) (net-near (resolutionIn p w) (allowed-in-force p allowed w) w (tallied p t i l) g sampled))
+              weighs-holds p t i l at-gross (net-force p w (tallied p t i l) g l sampled (k .net-is)) (netOf w) s
+              (rw (k .net-is) (net-near at-gross (allowed-at p allowed w (grossOf w) within) w (tallied p t i l) g sampled))
               k
               (is-loaded w (taken t i) f sampled);
           shown = untold-shown p t i l (k .told-is);
@@ -175,12 +185,13 @@ module _ (p : Profile) (t : Tally) (i : Input) (w : Weighing) (not-reset : after
     unfolding weighedBy
     answered-weighed range sampled =
         in-limits (λ a. Answered p t i w (answerBytes p a)) placeS (ltZ (pos (p .capacity)) (grossOf w)) (ltZ (grossOf w) (negℤ (pos (p .underload))))
-        (Weight (headOf placeS (stability w)) (numberIn (resolutionIn p w) (netOf w)))
+        (Weight (headOf placeS (stability w)) (numberIn at-gross (netOf w)))
         (answered-denied _ (over-denied p placeS) sampled)
         (answered-denied _ (under-denied p placeS) sampled)
         (λ o u.
-        net-told _ (weighed-weighs p (w .stable) (numberIn (resolutionIn p w) (netOf w)))
-        (weighed-shows p (resolutionIn p w) (netOf w) (net-printable p allowed w (grossOf w) (w .tare .0) o u range) (w .stable))
+        net-told _ (weighed-weighs p (w .stable) (numberIn at-gross (netOf w)))
+        (weighed-shows p at-gross (netOf w) (net-printable p allowed w (grossOf w) (w .tare .0) o u range) (w .stable))
+        o
         sampled)
 
     -- the tare becomes gross, which has no sign
@@ -196,15 +207,21 @@ module _ (p : Profile) (t : Tally) (i : Input) (w : Weighing) (not-reset : after
             unit = f .unit;
           })
 
-      tare-granted : Shows (resolutionIn p w) (grossOf w) l → Answered p t i (withTare w (natAbs (grossOf w))) l
-      tare-granted s =
+      -- so the gross decides the range
+      gross-force : at-gross ≡ inForceAt p (tallied p t i l) l
+      gross-force =
+          ap₂ (resolutionAt (p .fine)) (sym (resolution-tared p w (natAbs (grossOf w)))) (sym natural)
+          ∙ tare-force p (withTare w (natAbs (grossOf w))) (tallied p t i l) tare-followed l (k .net-is)
+
+      tare-granted : Shows at-gross (grossOf w) l → ltZ (pos (p .capacity)) (grossOf w) ≡ false → Answered p t i (withTare w (natAbs (grossOf w))) l
+      tare-granted s within =
           record {
             accepted =
-                tares-holds p t i l (resolutionIn p w)
-                (sym (resolution-tared p w (natAbs (grossOf w))) ∙ same-in-force p (withTare w (natAbs (grossOf w))) (tallied p t i l) tare-followed)
+                tares-holds p t i l at-gross gross-force
                 (grossOf w) s
                 (rw (k .net-is)
-                (rw natural at (tare-near (resolutionIn p w) (allowed-in-force p allowed w) (withTare w (natAbs (grossOf w))) (tallied p t i l) tare-followed)))
+                (subst (λ (x : ℤ). Near (allowance at-gross (tallied p t i l)) (printedFemtograms at-gross (placesOf at-gross x)) (tallied p t i l .tare)) natural
+                (tare-near at-gross (allowed-at p allowed w (grossOf w) within) (withTare w (natAbs (grossOf w))) (tallied p t i l) tare-followed)))
                 k
                 (is-loaded w (taken t i) f sampled);
             shown = untold-shown p t i l (k .told-is);
@@ -216,21 +233,23 @@ module _ (p : Profile) (t : Tally) (i : Input) (w : Weighing) (not-reset : after
         : (over under : Bool) (c : ℕ)
         → ltZ (pos (p .capacity)) (grossOf w) ≡ over
         → ltZ (grossOf w) (pos 0) ≡ under
-        → Tares (answerBytes p (Weight (headOf c (stability w)) (numberIn (resolutionIn p w) (grossOf w))))
-        → (printable (resolutionIn p w) (grossOf w) ≡ true → Shows (resolutionIn p w) (grossOf w) (answerBytes p (Weight (headOf c (stability w)) (numberIn (resolutionIn p w) (grossOf w)))))
+        → Tares (answerBytes p (Weight (headOf c (stability w)) (numberIn at-gross (grossOf w))))
+        → (printable at-gross (grossOf w) ≡ true → Shows at-gross (grossOf w) (answerBytes p (Weight (headOf c (stability w)) (numberIn at-gross (grossOf w)))))
         → w .sampled ≡ true
         → Answered p t i (chosenWeighing (over || under) w (withTare w (natAbs (grossOf w))))
-        (answerBytes p (inLimits c over under (Weight (headOf c (stability w)) (numberIn (resolutionIn p w) (grossOf w)))))
+        (answerBytes p (inLimits c over under (Weight (headOf c (stability w)) (numberIn at-gross (grossOf w)))))
     tared-by true under c o u k s sampled = answered-denied _ (over-denied p c) sampled
     tared-by false true c o u k s sampled = answered-denied _ (under-denied p c) sampled
     tared-by false false c o u k s sampled =
-        tare-granted _ k sampled (between (grossOf w) (p .capacity) o u .0) (s (gross-printable p allowed w (grossOf w) o u))
+        tare-granted _ k sampled (between (grossOf w) (p .capacity) o u .0) (s (gross-printable p allowed w (grossOf w) o u)) o
 
     -- T, TI
     pub answered-tared
         : (c : ℕ)
-        → Tares (answerBytes p (Weight (headOf c (stability w)) (numberIn (resolutionIn p w) (grossOf w))))
-        → (printable (resolutionIn p w) (grossOf w) ≡ true → Shows (resolutionIn p w) (grossOf w) (answerBytes p (Weight (headOf c (stability w)) (numberIn (resolutionIn p w) (grossOf w)))))
+        → Tares (answerBytes p (Weight (headOf c (stability w)) (numberIn (resolutionBy (scaleOf p w) (grossOf w)) (grossOf w))))
+        → (printable (resolutionBy (scaleOf p w) (grossOf w)) (grossOf w) ≡ true
+        → Shows (resolutionBy (scaleOf p w) (grossOf w)) (grossOf w)
+        (answerBytes p (Weight (headOf c (stability w)) (numberIn (resolutionBy (scaleOf p w) (grossOf w)) (grossOf w)))))
         → w .sampled ≡ true
         → Answered p t i (tared p w c .weighing) (answerBytes p (tared p w c .answer))
     unfolding taredBy
@@ -241,16 +260,17 @@ module _ (p : Profile) (t : Tally) (i : Input) (w : Weighing) (not-reset : after
         : ends t i ≡ true
         → sameText (endedText t i) (ascii "TA") ≡ true
         → w .tare .0 ≤ p .capacity
-        → Answered p t i w (answerBytes p (tareAnswer (resolutionIn p w) (w .tare .0)))
+        → Answered p t i w (answerBytes p (tareAnswer (scaleOf p w) (w .tare .0)))
     answered-told end alone range =
-        let k = told-tells p (numberIn (resolutionIn p w) (pos (w .tare .0))) in
-        let l = answerBytes p (tareAnswer (resolutionIn p w) (w .tare .0)) in
+        let r = at-tare (w .tare .0) in
+        let k = told-tells p (numberIn r (pos (w .tare .0))) in
+        let l = answerBytes p (tareAnswer (scaleOf p w) (w .tare .0)) in
         let g : Follows w (tallied p t i l) = rw (after-told p t i l k alone, not-reset) f in
         record {
           accepted =
-              told-holds p t i l (resolutionIn p w) (same-in-force p w (tallied p t i l) g) (pos (w .tare .0))
-              (told-shows p (resolutionIn p w) (pos (w .tare .0)) (tare-printable p allowed w (w .tare .0) range))
-              (rw (k .net-is) (tare-near (resolutionIn p w) (allowed-in-force p allowed w) w (tallied p t i l) g))
+              told-holds p t i l r (tare-force p w (tallied p t i l) g l (k .net-is)) (pos (w .tare .0))
+              (told-shows p r (pos (w .tare .0)) (tare-printable p allowed w (w .tare .0) range))
+              (rw (k .net-is) (tare-near r (allowed-at p allowed w (pos (w .tare .0)) (le-ltb (p .capacity) (w .tare .0) range)) w (tallied p t i l) g))
               k
               end
               alone;
@@ -264,27 +284,30 @@ module _ (p : Profile) (t : Tally) (i : Input) (w : Weighing) (not-reset : after
         → ends t i ≡ true
         → sameText (endedText t i) (ascii "TA") ≡ false
         → isDecimal (typedText (endedText t i)) ≡ true
-        → Near 1_000_000_000 (exactFemtograms (pos m)) (typedTare (resolutionIn p w) (endedText t i))
-        → m ≡ halfUp (natAbs (typedTare (resolutionIn p w) (endedText t i))) 1_000_000_000
-        → fieldOf (resolutionIn p w .decimals) (placesOf (resolutionIn p w) (pos m)) ≡ typedField (resolutionIn p w) (endedText t i)
+        → Near 1_000_000_000 (exactFemtograms (pos m)) (typedTare p (resolutionIn p w) (endedText t i))
+        → m ≡ halfUp (natAbs (typedTare p (resolutionIn p w) (endedText t i))) 1_000_000_000
+        → let r = resolutionBy (scaleOf p w) (pos m) in fieldOf (r .coarse) (r .decimals) (placesOf r (pos m)) ≡ typedField p (resolutionIn p w) (endedText t i)
         → m ≤ p .capacity
-        → Answered p t i (withTare w m) (answerBytes p (tareAnswer (resolutionIn p w) m))
+        → Answered p t i (withTare w m) (answerBytes p (tareAnswer (scaleOf p w) m))
     answered-typed m end other decimal off rounded printed range =
-        let k = told-tells p (numberIn (resolutionIn p w) (pos m)) in
-        let l = answerBytes p (tareAnswer (resolutionIn p w) m) in
-        let s : Shows (resolutionIn p w) (pos m) l = told-shows p (resolutionIn p w) (pos m) (tare-printable p allowed w m range) in
+        let r = at-tare m in
+        let k = told-tells p (numberIn r (pos m)) in
+        let l = answerBytes p (tareAnswer (scaleOf p w) m) in
+        let s : Shows r (pos m) l = told-shows p r (pos m) (tare-printable p allowed w m range) in
         let before : resolutionIn p w ≡ inForce p t = same-in-force p w (taken t i) f ∙ in-force-taken p t i in
         let g : Follows (withTare w m) (tallied p t i l) =
         rw (after-typed p t i l k other, not-reset, ← before) (record { latest = f .latest; zero = f .zero; tare = off; rounded = rounded; unit = f .unit }) in
         record {
           accepted =
-              typed-holds p t i l (resolutionIn p w) (sym (resolution-tared p w m) ∙ same-in-force p (withTare w m) (tallied p t i l) g) (pos m)
+              typed-holds p t i l r
+              (ap (λ (x : Resolution). resolutionAt (p .fine) x (pos m)) (sym (resolution-tared p w m)) ∙ tare-force p (withTare w m) (tallied p t i l) g l (k .net-is))
+              (pos m)
               s
-              (rw (k .net-is) (tare-near (resolutionIn p w) (allowed-in-force p allowed w) (withTare w m) (tallied p t i l) g))
+              (rw (k .net-is) (tare-near r (allowed-at p allowed w (pos m) (le-ltb (p .capacity) m range)) (withTare w m) (tallied p t i l) g))
               k
               end
               other
               decimal;
-          shown = due-shown p t i l (s .ten ∙ printed ∙ ap (λ (r : Resolution). typedField r (endedText t i)) before);
+          shown = due-shown p t i l (s .ten ∙ printed ∙ ap (λ (r : Resolution). typedField p r (endedText t i)) before);
           follows = g;
         }

@@ -2,7 +2,7 @@
 -- Assumes nothing.
 use Prim.Native.Nat.{ℕ, zero, suc, _<_, _≤_}
 use native.Mathlib.Omega.{arith}
-use mathlib.Core.Path.{_≡_, refl, sym, _∙_}
+use mathlib.Core.Path.{_≡_, refl, sym, subst, _∙_}
 use mathlib.Core.Bool.{Bool, true, false, cond, _&&_, _||_, or-true, false≢true}
 use mathlib.Core.List.{List}
 use borrow.Author.Tests.{le-leb, leb-true, lt-ltb, ne-eqb, eqb-true}
@@ -12,6 +12,7 @@ use lib.ListN.{length}
 use lib.Signed.{ltZ, nonNeg}
 use Rattle.answer.proofs.Rows.{parameters-are}
 use Rattle.answer.specs.Commands.{commandCount, isD, isSI, isSIR, isM21, isSR, isTA, placeD, placeDW, placeM21, placeReset, placeS, placeSR, placeT, placeTA, placeTAC, placeTI, placeZ, placeZI, placeI3, placeI4, placeI5, hasText, placeI2}
+use Rattle.answer.specs.declared.answer.Answer.{Answer}
 use Rattle.answer.specs.declared.answer.Answer.the-variants.{Plain, Weight}
 use Rattle.answer.specs.declared.answer.Answer.the-variants as answers
 use Rattle.answer.specs.declared.answer.Status.{Status}
@@ -26,18 +27,18 @@ use Rattle.model.specs.declared.state.Pending.the-variants.{Nothing, Weigh, Zer
 use Rattle.model.specs.declared.state.State.{State}
 use Rattle.weight.specs.declared.loads.Load.{Load}
 use Rattle.model.specs.declared.weighing.Weighing.{Weighing}
-use Rattle.model.specs.Profiles.{profileAllowed, resolutionIn, textOf20, textOf40, textAllowed20, textAllowed40}
+use Rattle.model.specs.Profiles.{profileAllowed, resolutionIn, scaleOf, textOf20, textOf40, textAllowed20, textAllowed40}
 use Rattle.commands.specs.Reactions.{weighing, zeroing, run, changing, identificationOf, performed, byteReaction, sendingAs, situationOf}
 use Rattle.commands.proofs.Ways.{by-choice, run-cases, change-cases, sample-cases}
 use Rattle.model.specs.declared.sending.Mode.the-variants.{Off}
 use Rattle.model.specs.Groups.{withLine, withSending}
 use Rattle.waiting.specs.Changes.{withThreshold}
 use Rattle.waiting.specs.Waits.{placeOfPending, sampledState, settled, begun, sampleReaction, begunBy, settledReactionBy}
-use Rattle.waiting.proofs.InForce.{resolution-settled}
-use Rattle.weighing.proofs.InForce.{resolution-after-tare, resolution-tared}
+use Rattle.waiting.proofs.InForce.{unit-settled}
+use Rattle.weighing.proofs.InForce.{unit-after-tare}
 use Rattle.weighing.proofs.Reach.{not-negative}
 use Rattle.answer.specs.Lines.{headOf}
-use Rattle.weighing.specs.Weighings.{stability, grossOf, netOf, numberIn, weighed, withSample, zeroed, tared, tareAnswer, taredBy, zeroedBy, weighedBy}
+use Rattle.weighing.specs.Weighings.{stability, grossOf, netOf, numberIn, resolutionBy, weighed, withSample, zeroed, tared, tareAnswer, taredBy, zeroedBy, weighedBy}
 use Rattle.model.proofs.ProfileFacts.{AllowedProfile, allowed-profile, text-short}
 use Rattle.history.proofs.AnswerKinds.{Tests, weighed-weighs, tared-tares, tared-now-tares, told-tells}
 use Rattle.history.proofs.DueWeights.{net-printable, gross-printable, tare-printable}
@@ -59,6 +60,7 @@ use Rattle.line.proofs.Verdicts.{busy-line, wrong-line, no-sample-line}
 use Rattle.weight.specs.Printing.{printable}
 use Rattle.weight.specs.Rounding.{roundAway, stepsOf, placesOf}
 use Rattle.weight.specs.declared.rounding.Resolution.{Resolution}
+use Rattle.weight.specs.declared.units.WeightUnit.{WeightUnit}
 use Rattle.weight.proofs.Allowed.{both-right}
 
 -- ---- the texts of I2 to I5
@@ -78,22 +80,22 @@ form40 c t place first e =
       both-right (leb (t .len) 40) (isPrintable (textOf40 t)) e,
     )
 
-module _ (p : Profile) (allowed : profileAllowed p ≡ true) (r : Resolution) where
+module _ (p : Profile) (allowed : profileAllowed p ≡ true) (v : WeightUnit) where
   abbrev facts : AllowedProfile p
   facts = allowed-profile p allowed
 
   -- I2 to I5, whose texts the profile allows
-  information-read : (c : ℕ) → hasText c ≡ true → ReadByHost p r (answers.Text c)
+  information-read : (c : ℕ) → hasText c ≡ true → ReadByHost p v (answers.Text c)
   information-read zero h = absurd (false≢true h)
   information-read (suc zero) h = absurd (false≢true h)
-  information-read (suc (suc zero)) h = text-read p r 2 (form40 2 (p .model) refl refl (facts .model))
-  information-read (suc (suc (suc zero))) h = text-read p r 3 (form40 3 (p .software) refl refl (facts .software))
-  information-read (suc (suc (suc (suc zero)))) h = text-read p r 4 (form20 4 (p .serial) refl (facts .serial))
-  information-read (suc (suc (suc (suc (suc zero))))) h = text-read p r 5 (form20 5 (p .release) refl (facts .release))
+  information-read (suc (suc zero)) h = text-read p v 2 (form40 2 (p .model) refl refl (facts .model))
+  information-read (suc (suc (suc zero))) h = text-read p v 3 (form40 3 (p .software) refl refl (facts .software))
+  information-read (suc (suc (suc (suc zero)))) h = text-read p v 4 (form20 4 (p .serial) refl (facts .serial))
+  information-read (suc (suc (suc (suc (suc zero))))) h = text-read p v 5 (form20 5 (p .release) refl (facts .release))
   information-read (suc (suc (suc (suc (suc (suc c)))))) h = absurd (omega (arith, leb-true (suc (suc (suc (suc (suc (suc c)))))) placeI5 (both-right (leb placeI2 (suc (suc (suc (suc (suc (suc c))))))) (leb (suc (suc (suc (suc (suc (suc c)))))) placeI5) h)))
 
   -- I4, which power-on and @ send
-  pub serial-read : ReadByHost p r (answers.Text placeI4)
+  pub serial-read : ReadByHost p v (answers.Text placeI4)
   serial-read = information-read placeI4 refl
 
 -- ---- weights
@@ -116,16 +118,24 @@ tare-weight l k = rw (k .tare-is, or-true (tellsNet l))
 told-weight : {zero tare clear net limit unit : Bool} (l : List ℕ) → Tests zero tare clear true net limit unit l → isWeightAnswer l ≡ true
 told-weight l k = rw (k .told-is, or-true (tellsNet l || grantsTare l))
 
+-- a weight in the resolution in force is one in the unit in force
+unit-in : (p : Profile) (w : Weighing) → resolutionIn p w .unit ≡ w .unit
+unfolding resolutionIn
+unit-in p w = refl
+
+in-unit : (p : Profile) (w : Weighing) (a : Answer) → ReadByHost p (resolutionIn p w .unit) a → ReadByHost p (w .unit) a
+in-unit p w a = subst (λ (u : WeightUnit). ReadByHost p u a) (unit-in p w)
+
 module _ (p : Profile) (r : Resolution) where
   -- S S, S D
-  net-form : (stable : Bool) (w : ℤ) → printable r w ≡ true → ReadByHost p r (Weight (headOf placeS (cond stable S D)) (numberIn r w))
+  net-form : (stable : Bool) (w : ℤ) → printable r w ≡ true → ReadByHost p (r .unit) (Weight (headOf placeS (cond stable S D)) (numberIn r w))
   net-form true w fits =
       weight-read p r w fits placeS S refl refl (net-weight _ (weighed-weighs p true (numberIn r w))) (weighed-shows p r w fits true)
   net-form false w fits =
       weight-read p r w fits placeS D refl refl (net-weight _ (weighed-weighs p false (numberIn r w))) (weighed-shows p r w fits false)
 
   -- TI S, TI D
-  tare-form : (stable : Bool) (w : ℤ) → printable r w ≡ true → nonNeg w ≡ true → ReadByHost p r (Weight (headOf placeTI (cond stable S D)) (numberIn r w))
+  tare-form : (stable : Bool) (w : ℤ) → printable r w ≡ true → nonNeg w ≡ true → ReadByHost p (r .unit) (Weight (headOf placeTI (cond stable S D)) (numberIn r w))
   tare-form true w fits sign =
       weight-read p r w fits placeTI S refl (natural-printed r w sign) (tare-weight _ (tared-now-tares p true (numberIn r w))) (tared-now-shows p r w fits true)
   tare-form false w fits sign =
@@ -133,61 +143,65 @@ module _ (p : Profile) (r : Resolution) where
 
   -- T S
   settled-form : (stable : Bool) → stable ≡ true → (w : ℤ) → printable r w ≡ true → nonNeg w ≡ true
-      → ReadByHost p r (Weight (headOf placeT (cond stable S D)) (numberIn r w))
+      → ReadByHost p (r .unit) (Weight (headOf placeT (cond stable S D)) (numberIn r w))
   settled-form stable e w fits sign =
       rw e
       (weight-read p r w fits placeT S refl (natural-printed r w sign) (tare-weight _ (tared-tares p (numberIn r w))) (tared-shows p r w fits))
 
 -- TA
-told-read : (p : Profile) → profileAllowed p ≡ true → (w : Weighing) (n : ℕ) → n ≤ p .capacity
-    → ReadByHost p (resolutionIn p w) (tareAnswer (resolutionIn p w) n)
+told-read : (p : Profile) → profileAllowed p ≡ true → (w : Weighing) (n : ℕ) → n ≤ p .capacity → ReadByHost p (w .unit) (tareAnswer (scaleOf p w) n)
 told-read p allowed w n range =
-    let r = resolutionIn p w in
+    let r = resolutionBy (scaleOf p w) (pos n) in
     let fits = tare-printable p allowed w n range in
-    weight-read p r (pos n) fits placeTA A refl (natural-printed r (pos n) refl) (told-weight _ (told-tells p (numberIn r (pos n)))) (told-shows p r (pos n) fits)
+    in-unit p w (tareAnswer (scaleOf p w) n)
+    (weight-read p r (pos n) fits placeTA A refl (natural-printed r (pos n) refl) (told-weight _ (told-tells p (numberIn r (pos n)))) (told-shows p r (pos n) fits))
 
 -- ---- S, Z, T and SR
 
 module _ (p : Profile) (allowed : profileAllowed p ≡ true) (w : Weighing) (range : w .tare .0 ≤ p .capacity) where
+  -- in the resolution in force, by gross
+  abbrev at-gross : Resolution
+  at-gross = resolutionBy (scaleOf p w) (grossOf w)
+
   -- S, SI, SIR
-  weighed-read : ReadByHost p (resolutionIn p w) (weighed p w)
+  weighed-read : ReadByHost p (w .unit) (weighed p w)
   unfolding weighedBy
   weighed-read =
-      in-limits (ReadByHost p (resolutionIn p w)) placeS (ltZ (pos (p .capacity)) (grossOf w)) (ltZ (grossOf w) (negℤ (pos (p .underload))))
-      (Weight (headOf placeS (stability w)) (numberIn (resolutionIn p w) (netOf w)))
+      in-limits (ReadByHost p (w .unit)) placeS (ltZ (pos (p .capacity)) (grossOf w)) (ltZ (grossOf w) (negℤ (pos (p .underload))))
+      (Weight (headOf placeS (stability w)) (numberIn at-gross (netOf w)))
       (plain-read p _ placeS Over refl)
       (plain-read p _ placeS Under refl)
-      (λ o u. net-form p (resolutionIn p w) (w .stable) (netOf w) (net-printable p allowed w (grossOf w) (w .tare .0) o u range))
+      (λ o u. in-unit p w _ (net-form p at-gross (w .stable) (netOf w) (net-printable p allowed w (grossOf w) (w .tare .0) o u range)))
 
   -- Z, ZI
-  zeroed-read : (r : Resolution) (c : ℕ) (granted : Status) → plainForm c Over ≡ true → plainForm c Under ≡ true → plainForm c granted ≡ true
-      → ReadByHost p r (zeroed p w c granted .answer)
+  zeroed-read : (v : WeightUnit) (c : ℕ) (granted : Status) → plainForm c Over ≡ true → plainForm c Under ≡ true → plainForm c granted ≡ true
+      → ReadByHost p v (zeroed p w c granted .answer)
   unfolding zeroedBy
-  zeroed-read r c granted o u g =
-      in-limits (ReadByHost p r) c (ltZ (pos (p .zeroing)) (w .load .0)) (ltZ (w .load .0) (negℤ (pos (p .zeroing)))) (Plain (headOf c granted))
+  zeroed-read v c granted o u g =
+      in-limits (ReadByHost p v) c (ltZ (pos (p .zeroing)) (w .load .0)) (ltZ (w .load .0) (negℤ (pos (p .zeroing)))) (Plain (headOf c granted))
       (plain-read p _ c Over o)
       (plain-read p _ c Under u)
       (λ over under. plain-read p _ c granted g)
 
   -- T, TI
   tared-read : (c : ℕ) → plainForm c Over ≡ true → plainForm c Under ≡ true
-      → (printable (resolutionIn p w) (grossOf w) ≡ true → nonNeg (grossOf w) ≡ true
-      → ReadByHost p (resolutionIn p w) (Weight (headOf c (stability w)) (numberIn (resolutionIn p w) (grossOf w))))
-      → ReadByHost p (resolutionIn p w) (tared p w c .answer)
+      → (printable (resolutionBy (scaleOf p w) (grossOf w)) (grossOf w) ≡ true → nonNeg (grossOf w) ≡ true
+      → ReadByHost p (resolutionIn p w .unit) (Weight (headOf c (stability w)) (numberIn (resolutionBy (scaleOf p w) (grossOf w)) (grossOf w))))
+      → ReadByHost p (w .unit) (tared p w c .answer)
   unfolding taredBy
   tared-read c o u h =
-      in-limits (ReadByHost p (resolutionIn p w)) c (ltZ (pos (p .capacity)) (grossOf w)) (ltZ (grossOf w) (pos 0))
-      (Weight (headOf c (stability w)) (numberIn (resolutionIn p w) (grossOf w)))
+      in-limits (ReadByHost p (w .unit)) c (ltZ (pos (p .capacity)) (grossOf w)) (ltZ (grossOf w) (pos 0))
+      (Weight (headOf c (stability w)) (numberIn at-gross (grossOf w)))
       (plain-read p _ c Over o)
       (plain-read p _ c Under u)
-      (λ over under. h (gross-printable p allowed w (grossOf w) over under) (not-negative (grossOf w) refl under))
+      (λ over under. in-unit p w _ (h (gross-printable p allowed w (grossOf w) over under) (not-negative (grossOf w) refl under)))
 
   -- what a waiting command answers at a stable sample
-  settled-read : (pending : Pending) → w .stable ≡ true → ReadByHost p (resolutionIn p w) (settled p pending w .answer)
+  settled-read : (pending : Pending) → w .stable ≡ true → ReadByHost p (w .unit) (settled p pending w .answer)
   settled-read Nothing stable = nothing-read p _
   settled-read Weigh stable = weighed-read
-  settled-read Zero stable = zeroed-read (resolutionIn p w) placeZ A refl refl refl
-  settled-read Tare stable = tared-read placeT refl refl (λ fits sign. settled-form p (resolutionIn p w) (w .stable) stable (grossOf w) fits sign)
+  settled-read Zero stable = zeroed-read (w .unit) placeZ A refl refl refl
+  settled-read Tare stable = tared-read placeT refl refl (λ fits sign. settled-form p at-gross (w .stable) stable (grossOf w) fits sign)
   settled-read Change stable = weighed-read
 
 -- ZI with S or D
@@ -197,9 +211,9 @@ stability-form false = refl
 
 -- ---- a command's own rule
 
--- the host reads the answer of a reaction, in the resolution in force after it
+-- the host reads the answer of a reaction, in the unit in force after it
 abbrev ReadIn : Profile → Reaction → Type 0
-ReadIn p x = ReadByHost p (resolutionIn p (x .state .weighing)) (x .answer)
+ReadIn p x = ReadByHost p (x .state .weighing .unit) (x .answer)
 
 module _ (p : Profile) (allowed : profileAllowed p ≡ true) (s : State) (range : s .weighing .tare .0 ≤ p .capacity) where
   -- judged at once, or waiting without an answer
@@ -208,7 +222,7 @@ module _ (p : Profile) (allowed : profileAllowed p ≡ true) (s : State) (range 
   begun-read pending =
       by-choice (ReadIn p) (s .weighing .sampled && s .weighing .stable)
       (λ e.
-      rw (resolution-settled p pending (s .weighing))
+      rw (unit-settled p pending (s .weighing))
       (settled-read p allowed (s .weighing) range pending (both-right (s .weighing .sampled) (s .weighing .stable) e)))
       (λ e. nothing-read p _)
 
@@ -234,11 +248,12 @@ module _ (p : Profile) (allowed : profileAllowed p ≡ true) (s : State) (range 
       (λ is. change-read p allowed s range 0)
       (λ is. begun-read p allowed s range Tare)
       (λ needs.
-      rw (resolution-after-tare p (s .weighing) placeTI)
-      (tared-read p allowed (s .weighing) range placeTI refl refl (tare-form p (resolutionIn p (s .weighing)) (s .weighing .stable) (grossOf (s .weighing)))))
+      rw (unit-after-tare p (s .weighing) placeTI)
+      (tared-read p allowed (s .weighing) range placeTI refl refl
+      (tare-form p (resolutionBy (scaleOf p (s .weighing)) (grossOf (s .weighing))) (s .weighing .stable) (grossOf (s .weighing)))))
       (plain-read p _ placeTAC A refl)
       (λ is. told-read p allowed (s .weighing) (s .weighing .tare .0) range)
-      (λ is. unit-read p (s .weighing))
+      (λ is. unit-read p (s .weighing .unit))
 
 -- ---- a finished line
 
@@ -306,7 +321,7 @@ module _ (p : Profile) (allowed : profileAllowed p ≡ true) (s : State) (range 
   performed-read l (Wrong c) named = plain-read p _ (identificationOf c) L named
   performed-read l (NoSample c) named = plain-read p _ (identificationOf c) I named
   performed-read l (Run c) named = run-read p allowed s range c named
-  performed-read l (Preset m) named = rw (resolution-tared p (s .weighing) (m .0)) (told-read p allowed (s .weighing) (m .0) named)
+  performed-read l (Preset m) named = told-read p allowed (s .weighing) (m .0) named
   performed-read l (verdicts.Change t) named = change-read p allowed s range (t .0)
   performed-read l (Show n) named = plain-read p _ placeD A refl
   performed-read l (Select u) named = plain-read p _ placeM21 A refl
@@ -345,7 +360,7 @@ module _ (p : Profile) (allowed : profileAllowed p ≡ true) (s : State) (range 
   sample-read stable =
       sample-cases (ReadIn p) p s z stable
       (λ waits e.
-      rw (resolution-settled p (s .waiting .pending) (withSample (s .weighing) z stable))
+      rw (unit-settled p (s .waiting .pending) (withSample (s .weighing) z stable))
       (settled-read p allowed (withSample (s .weighing) z stable) range (s .waiting .pending) e))
       (λ waits e most. plain-read p _ (placeOfPending (s .waiting .pending)) I (pending-form (s .waiting .pending)))
       (λ waits e less. nothing-read p _)

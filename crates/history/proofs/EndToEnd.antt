@@ -14,17 +14,16 @@ use Rattle.model.specs.declared.react.Reaction.{Reaction}
 use Rattle.model.specs.declared.state.State.{State}
 use Rattle.model.specs.Refusals.{numberOfRefusal}
 use Rattle.device.specs.Calls.{answerBytes}
-use Rattle.model.specs.Profiles.{profileAllowed, resolutionIn}
+use Rattle.model.specs.Profiles.{profileAllowed}
 use Rattle.commands.specs.Reactions.{byteReaction}
 use Rattle.waiting.specs.Waits.{sampleReaction}
 use Rattle.history.specs.Claim.{OverCalls}
 use Rattle.history.specs.EndToEnd.{piecesOf, piecesHold, hostAccepts, EndToEnd}
-use Rattle.history.specs.Tally.{Input, Tally, startTally, inForce, byteIs, sampleIs, taken, tallied, loadHolds, typedHolds, unitHolds, weightHolds, holds, afterEvent, eventHolds}
+use Rattle.history.specs.Tally.{Input, Tally, startTally, inForceAt, byteIs, sampleIs, taken, tallied, loadHolds, typedHolds, unitHolds, weightHolds, holds, afterEvent, eventHolds}
 use Rattle.history.proofs.Along.{Followed, Step, over-calls}
 use Rattle.history.proofs.AnswerKinds.{text-silent}
 use Rattle.history.proofs.AnswersRead.{serial-read, byte-read, sample-read}
 use Rattle.history.proofs.DueWeights.{tare-range}
-use Rattle.history.proofs.Following.{same-in-force}
 use Rattle.history.proofs.HostReads.{ReadByHost}
 use Rattle.history.proofs.Stepping.{FollowsState, start-followed, Stepped, byte-stepped, sample-stepped}
 use Rattle.history.proofs.Delivering.{Started, started, Delivered, given, withheld, byte-delivered, sample-delivered}
@@ -35,21 +34,21 @@ use Rattle.weight.proofs.Allowed.{both-right}
 
 -- what the tally takes of the weight in an answer that was sent
 weight-taken : (p : Profile) (t : Tally) (i : Input) (l : List ℕ) → eventHolds p t (record { input = i; refusal = 0; answer = l }) ≡ true
-    → weightHolds (inForce p (tallied p t i l)) (tallied p t i l) l ≡ true
+    → weightHolds (inForceAt p (tallied p t i l) l) (tallied p t i l) l ≡ true
 unfolding eventHolds holds
-weight-taken p t i l h = both-right (loadHolds (taken t i) l && typedHolds t i l && unitHolds t i l) (weightHolds (inForce p (tallied p t i l)) (tallied p t i l) l) h
+weight-taken p t i l h = both-right (loadHolds (taken t i) l && typedHolds t i l && unitHolds t i l) (weightHolds (inForceAt p (tallied p t i l) l) (tallied p t i l) l) h
 
--- the resolution in force after it is the tally's
-force-after : (p : Profile) (s : State) (t : Tally) (i : Input) (l : List ℕ) → FollowsState p s (afterEvent p t (record { input = i; refusal = 0; answer = l }))
-    → resolutionIn p (s .weighing) ≡ inForce p (tallied p t i l)
+-- the unit in force after it is the tally's
+unit-after : (p : Profile) (s : State) (t : Tally) (i : Input) (l : List ℕ) → FollowsState p s (afterEvent p t (record { input = i; refusal = 0; answer = l }))
+    → tallied p t i l .unit ≡ s .weighing .unit
 unfolding afterEvent
-force-after p s t i l f = same-in-force p (s .weighing) (tallied p t i l) (f .weighing)
+unit-after p s t i l f = f .weighing .unit
 
 -- a call that the tally accepts and follows, and whose answer the host reads
 read-followed
     : (p : Profile) (s : State) (t : Tally) (i : Input) (x : Reaction) {r : Called} {buffer : List ℕ}
     → Delivered p s x r buffer
-    → ReadByHost p (resolutionIn p (x .state .weighing)) (x .answer)
+    → ReadByHost p (x .state .weighing .unit) (x .answer)
     → Stepped p t (record { input = i; refusal = numberOfRefusal (r .refusal); answer = take (r .count) buffer }) (r .state)
     → Followed Tally (FollowsState p) (hostAccepts p) (r .state) t
     (record { input = i; refusal = numberOfRefusal (r .refusal); answer = take (r .count) buffer })
@@ -57,8 +56,8 @@ unfolding hostAccepts
 read-followed p s t i x (given none state answer) read stepped =
     let l = answerBytes p (x .answer) in
     let taken = weight-taken p t i l (rw (none, answer) at (stepped .accepted)) in
-    let same = force-after p (x .state) t i l (rw (none, state, answer) at (stepped .follows)) in
-    let held : piecesHold (inForce p (tallied p t i l)) (tallied p t i l) (piecesOf l) ≡ true = rw (← same) (read (tallied p t i l) (rw same taken)) in
+    let same = unit-after p (x .state) t i l (rw (none, state, answer) at (stepped .follows)) in
+    let held : piecesHold p (tallied p t i l) (piecesOf l) ≡ true = read (tallied p t i l) same taken in
     record {
       next = afterEvent p t _;
       kept = stepped .follows;
@@ -88,11 +87,11 @@ step p profile =
 -- ---- the whole list
 
 -- power-on's line: I4 and its text
-on-read : (p : Profile) → profileAllowed p ≡ true → piecesHold (inForce p startTally) startTally (piecesOf (answerBytes p (Text placeI4))) ≡ true
+on-read : (p : Profile) → profileAllowed p ≡ true → piecesHold p startTally (piecesOf (answerBytes p (Text placeI4))) ≡ true
 unfolding weightHolds
 on-read p allowed =
     let k = text-silent p placeI4 refl in
-    serial-read p allowed (inForce p startTally) startTally (rw (k .net-is, k .tare-is, k .told-is))
+    serial-read p allowed (startTally .unit) startTally refl (rw (k .net-is, k .tare-is, k .told-is))
 
 calls-read : OverCalls (λ p sent es. hostAccepts p startTally es ≡ true)
 calls-read = over-calls {X = Tally} {Inv = FollowsState} {accepted = hostAccepts} step startTally start-followed

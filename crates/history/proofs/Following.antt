@@ -1,21 +1,22 @@
 -- The tally follows a weighing: the same latest load, zero and unit, and the same tare up to half a microgram if it is typed, rounded to
 -- the microgram then. One law for each kind of answer, used both where a line ends and where a sample ends a wait.
 -- Assumes nothing.
-use Prim.Native.Nat.{_+_, _≤_}
+use Prim.Native.Nat.{ℕ, _+_, _≤_}
 use native.Mathlib.Omega.{arith}
-use mathlib.Core.Path.{_≡_, refl, ap₂}
+use mathlib.Core.Path.{_≡_, refl, sym, ap₂}
 use mathlib.Core.Bool.{Bool, true, false, cond}
+use mathlib.Core.List.{List}
 use lib.IntN.{ℤ, pos, _-ℤ_}
 use Rattle.model.specs.declared.profile.Profile.{Profile}
 use Rattle.model.specs.declared.weighing.Weighing.{Weighing}
-use Rattle.model.specs.Profiles.{resolutionIn}
-use Rattle.weighing.specs.Weighings.{grossOf, netOf}
+use Rattle.model.specs.Profiles.{resolutionIn, scaleOf}
+use Rattle.weighing.specs.Weighings.{grossOf, netOf, resolutionBy}
 use Rattle.weight.specs.declared.rounding.Resolution.{Resolution}
+use Rattle.weight.specs.Ranges.{resolutionAt}
 use Rattle.weight.specs.Rounding.{allowedResolution, stepFemtograms, printedFemtograms, exactFemtograms, placesOf, Near}
 use Rattle.weight.proofs.HalfStep.{half-step, exact-difference}
 use Rattle.weight.proofs.Nearness.{near-weaken, near-triangle, near-shift}
-use Rattle.history.specs.OnChange.{roundedTare}
-use Rattle.history.specs.Tally.{Tally, Latest, none, load, inForce, latestOf, isLoaded, allowance}
+use Rattle.history.specs.Tally.{Tally, Latest, none, load, inForce, inForceAt, latestOf, isLoaded, roundedTare, tellsNet, allowance}
 
 -- the latest load, as the tally keeps it
 abbrev pub latestIn : Weighing → Latest
@@ -42,6 +43,14 @@ module _ (w : Weighing) (t : Tally) (f : Follows w t) (sampled : w .sampled ≡ 
 
   pub gross-is : latestOf t -ℤ t .zero ≡ grossOf w
   gross-is = ap₂ _-ℤ_ latest-is (f .zero)
+
+-- and so is the resolution in force, by gross and by the tare
+module _ (p : Profile) (w : Weighing) (t : Tally) (f : Follows w t) (l : List ℕ) where
+  pub net-force : w .sampled ≡ true → tellsNet l ≡ true → resolutionBy (scaleOf p w) (grossOf w) ≡ inForceAt p t l
+  net-force sampled net = rw net (ap₂ (resolutionAt (p .fine)) (same-in-force p w t f) (sym (gross-is w t f sampled)))
+
+  pub tare-force : tellsNet l ≡ false → resolutionBy (scaleOf p w) (pos (w .tare .0)) ≡ inForceAt p t l
+  tare-force other = rw other (ap₂ (λ (r : Resolution) (n : ℕ). resolutionAt (p .fine) r (pos n)) (same-in-force p w t f) (f .rounded))
 
 -- half a step, and half a microgram if the tare is typed, are within what the tally allows
 allowed-off : (r : Resolution) (t : Tally) (typed : Bool) → t .typed ≡ typed

@@ -14,7 +14,7 @@ use Rattle.weight.specs.declared.units.WeightUnit.the-variants.{G}
 use Rattle.weight.specs.Rounding.{exactFemtograms}
 use Rattle.weight.proofs.Allowed.{both-hold, both-left, both-right}
 use Rattle.history.specs.Grams.{InGrams, isGrams, neverSet, staysInGrams, tellsGrams}
-use Rattle.history.specs.Tally.{Event, Input, byteIs, sampleIs, Tally, startTally, inForce, chosenTally, withTareOf, withUnitOf, withZeroOf, taken, ends, ended, endedText, isResetLine, afterReset, latestOf, typedTare, setsUnit, isUnitLine, unitSet, grantsZero, grantsTare, grantsClear, grantsTyped, grantsUnit, granted, isWeightAnswer, isWhole, tenOf, compares, loadHolds, typedHolds, unitHolds, weightHolds, tallied, holds, afterEvent, eventHolds, accepts}
+use Rattle.history.specs.Tally.{Event, Input, byteIs, sampleIs, Tally, startTally, inForce, inForceAt, chosenTally, withTareOf, withUnitOf, withZeroOf, taken, ends, ended, endedText, isResetLine, afterReset, latestOf, typedTare, setsUnit, isUnitLine, unitSet, grantsZero, grantsTare, grantsClear, grantsTyped, grantsUnit, granted, isWeightAnswer, isWhole, tenOf, compares, loadHolds, typedHolds, unitHolds, weightHolds, tallied, holds, afterEvent, eventHolds, accepts}
 use Rattle.history.proofs.Demand3.{demand3}
 
 -- ---- the unit after a call
@@ -50,7 +50,7 @@ module _ (p : Profile) (t : Tally) (i : Input) (l : List ℕ) (unset : setsUnit 
   unit-kept =
       let u = afterReset t i (taken t i) in
       granted-unit-by (grantsZero l) (grantsTare l) (grantsClear l) (grantsTyped t i l) (grantsUnit t i l) u (latestOf u)
-      (exactFemtograms (latestOf u -ℤ u .zero)) (typedTare (inForce p t) (endedText t i)) (unitSet (endedText t i)) unset-by
+      (exactFemtograms (latestOf u -ℤ u .zero)) (typedTare p (inForce p t) (endedText t i)) (unitSet (endedText t i)) unset-by
       ∙ reset-unit-by (ends t i && isResetLine (ended t i)) (taken t i)
       ∙ taken-unit t i
 
@@ -73,7 +73,7 @@ module _ (p : Profile) (t : Tally) (i : Input) (l : List ℕ) (grams : tallied p
   told-grams : holds p t i l ≡ true → tellsGrams l ≡ true
   unfolding holds weightHolds inForce
   told-grams h =
-      let r = inForce p (tallied p t i l) in
+      let r = inForceAt p (tallied p t i l) l in
       let whole : (not (isWeightAnswer l) || isWhole (tallied p t i l .unit) l) ≡ true =
       weight-by (isWeightAnswer l) (isWhole (tallied p t i l .unit) l) (compares r (tallied p t i l) l (readField (tenOf l)))
       (both-right (loadHolds (taken t i) l && typedHolds t i l && unitHolds t i l) (weightHolds r (tallied p t i l) l) h) in

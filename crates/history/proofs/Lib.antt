@@ -7,6 +7,7 @@ pub mod Demand3
 mod DueWeights
 mod EachCall
 pub mod EndToEnd
+pub mod FineOnly
 mod Following
 pub mod Grams
 mod HostReads

@@ -26,7 +26,7 @@ use Rattle.text.specs.Printable.{isPrintable}
 use Rattle.weight.specs.Characters.{digit, space}
 use Rattle.text.specs.Ascii.{ascii}
 use Rattle.weight.specs.Places.{lastDigits, digitsIn, digitsOf, decimalOf, numberText, widthOf, fitsField}
-use Rattle.text.specs.Field.{fieldOf, blank}
+use Rattle.text.specs.Field.{alignedIn, fieldOf, blank}
 use Rattle.text.specs.UnitTexts.{unitText, unitCode}
 use Rattle.weight.specs.declared.units.WeightUnit.{WeightUnit}
 use Rattle.weight.specs.declared.units.WeightUnit.the-variants.{G, Mg, Ct, Oz, Ozt, Gn, Dwt, Kg, Lb}
@@ -134,10 +134,17 @@ spaces-unbroken zero = refl
 spaces-unbroken (suc k) = spaces-unbroken k
 
 -- the ten characters of a weight
-cells-unbroken : (fits : Bool) (d : ℕ) (n : ℤ) → unbroken (cond fits (fieldOf d n) blank) ≡ true
+aligned-unbroken : (w d : ℕ) (n : ℤ) → unbroken (alignedIn w d n) ≡ true
+aligned-unbroken w d n = joined (replicate (w - widthOf d n) space) (numberText d n) (spaces-unbroken (w - widthOf d n)) (number-unbroken d n)
+
+field-unbroken : (c : Bool) (d : ℕ) (n : ℤ) → unbroken (fieldOf c d n) ≡ true
 unfolding fieldOf
-cells-unbroken true d n = joined (replicate (10 - widthOf d n) space) (numberText d n) (spaces-unbroken (10 - widthOf d n)) (number-unbroken d n)
-cells-unbroken false d n = refl
+field-unbroken true d n = joined (alignedIn 9 d n) (space ∷ []) (aligned-unbroken 9 d n) refl
+field-unbroken false d n = aligned-unbroken 10 d n
+
+cells-unbroken : (fits c : Bool) (d : ℕ) (n : ℤ) → unbroken (cond fits (fieldOf c d n) blank) ≡ true
+cells-unbroken true c d n = field-unbroken c d n
+cells-unbroken false c d n = refl
 
 -- units, and their codes
 unit-unbroken : (u : WeightUnit) → unbroken (unitText u) ≡ true
@@ -166,9 +173,9 @@ code-unbroken Lb = refl
 weight-unbroken : (n : Number) → unbroken (weightText n) ≡ true
 unfolding weightText
 weight-unbroken n =
-    let f = cond (fitsField (n .decimals) (n .places .0)) (fieldOf (n .decimals) (n .places .0)) blank in
+    let f = cond (fitsField (n .coarse) (n .decimals) (n .places .0)) (fieldOf (n .coarse) (n .decimals) (n .places .0)) blank in
     joined (f ++ ascii " ") (unitText (n .unit))
-    (joined f (ascii " ") (cells-unbroken (fitsField (n .decimals) (n .places .0)) (n .decimals) (n .places .0)) refl)
+    (joined f (ascii " ") (cells-unbroken (fitsField (n .coarse) (n .decimals) (n .places .0)) (n .coarse) (n .decimals) (n .places .0)) refl)
     (unit-unbroken (n .unit))
 
 -- names

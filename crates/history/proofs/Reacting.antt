@@ -1,9 +1,9 @@
 -- The tally accepts what a finished line and a sample make of the state, and follows it.
 -- Assumes nothing.
 use Prim.Native.Nat.{ℕ, _≤_}
-use mathlib.Core.Path.{_≡_, refl, ap}
+use mathlib.Core.Path.{_≡_, refl}
 use mathlib.Core.Bool.{Bool, true, false, cond, _&&_}
-use mathlib.Core.List.{List}
+use mathlib.Core.List.{List, map}
 use lib.Dec.{leb}
 use lib.IntN.{ℤ, pos}
 use Rattle.answer.specs.declared.answer.Answer.the-variants as answers
@@ -19,21 +19,20 @@ use Rattle.model.specs.declared.state.State.{State}
 use Rattle.weight.specs.declared.loads.Load.{Load}
 use Rattle.model.specs.declared.weighing.Weighing.{Weighing}
 use Rattle.device.specs.Calls.{answerBytes}
-use Rattle.model.specs.Profiles.{profileAllowed, resolutionIn}
+use Rattle.model.specs.Profiles.{profileAllowed, resolutionIn, scaleOf}
 use Rattle.commands.specs.Reactions.{weighing, run, changing, identificationOf, resetState, performed, sendingAs, situationOf}
 use Rattle.commands.proofs.Ways.{run-cases, change-cases, sample-cases}
 use Rattle.model.specs.declared.sending.Mode.the-variants.{Off}
 use Rattle.model.specs.Groups.{withWaiting, withSending, reaction, chosenReaction}
 use Rattle.waiting.specs.Changes.{withThreshold}
 use Rattle.waiting.specs.Waits.{settled, settledReaction, begun, placeOfPending, sampledState, sampleReaction, begunBy, settledReactionBy}
-use Rattle.weighing.specs.Weighings.{stability, grossOf, numberIn, weighed, withSample}
+use Rattle.weighing.specs.Weighings.{stability, grossOf, numberIn, resolutionBy, weighed, withSample}
 use Rattle.line.specs.declared.judge.Verdict.{Verdict}
 use Rattle.line.specs.declared.judge.Verdict.the-variants.{Erroneous, Reset, Busy, Wrong, NoSample, Run, Preset, Show, Select}
 use Rattle.line.specs.declared.judge.Verdict.the-variants as verdicts
 use Rattle.line.specs.declared.receive.Line.{Line}
-use Rattle.line.specs.Unbounded.{Marked, endsUnbounded, finishedLine}
+use Rattle.line.specs.Unbounded.{Marked, byteIn, endsUnbounded, finishedLine}
 use Rattle.line.proofs.Proper.{Ruled}
-use Rattle.text.specs.Field.{fieldOf}
 use Rattle.weight.specs.declared.rounding.Resolution.{Resolution}
 use Rattle.weight.specs.Printing.{printable}
 use Rattle.weight.proofs.Allowed.{both-right}
@@ -42,6 +41,7 @@ use Rattle.history.specs.Tally.{Tally, Input, byteIs, sampleIs, taken, e
 use Rattle.history.proofs.AnswerKinds.{Silent, Tares, nothing-silent, error-silent, list-silent, versions-silent, shown-silent, weight-shown-silent, unit-silent, unready-silent, wrong-silent, text-silent, zeroed-zeroes, zeroed-now-zeroes, tared-tares, tared-now-tares}
 use Rattle.history.proofs.Answering.{Answered, answered-silent, answered-quietly, answered-zeroed, answered-cleared, answered-selected, answered-weighed, answered-tared, answered-told, answered-typed, zero-exact, zero-rounded}
 use Rattle.history.proofs.Following.{Follows}
+use Rattle.history.proofs.TypedLines.{typed-told}
 use Rattle.history.proofs.Verdicts.{Says}
 use Rattle.history.proofs.WeightLines.{Shows, tared-shows, tared-now-shows}
 
@@ -79,8 +79,8 @@ module _
     settled-answered w Zero f range sampled stable = answered-zeroed p t i w not-reset f placeZ A (zeroed-zeroes p) sampled
     settled-answered w Tare f range sampled stable =
         answered-tared p t i w not-reset f allowed placeT
-        (stable-tares p (w .stable) stable (numberIn (resolutionIn p w) (grossOf w)))
-        (stable-shows p (w .stable) stable (resolutionIn p w) (grossOf w))
+        (stable-tares p (w .stable) stable (numberIn (resolutionBy (scaleOf p w) (grossOf w)) (grossOf w)))
+        (stable-shows p (w .stable) stable (resolutionBy (scaleOf p w) (grossOf w)) (grossOf w))
         sampled
     settled-answered w Change f range sampled stable = answered-weighed p t i w not-reset f allowed range sampled
 
@@ -139,8 +139,8 @@ module _
             (λ is. begun-reacted s f range Tare)
             (λ needs.
             answered-tared p t i (s .weighing) not-reset f allowed placeTI
-            (tared-now-tares p (s .weighing .stable) (numberIn (resolutionIn p (s .weighing)) (grossOf (s .weighing))))
-            (λ fits. tared-now-shows p (resolutionIn p (s .weighing)) (grossOf (s .weighing)) fits (s .weighing .stable))
+            (tared-now-tares p (s .weighing .stable) (numberIn (resolutionBy (scaleOf p (s .weighing)) (grossOf (s .weighing))) (grossOf (s .weighing))))
+            (λ fits. tared-now-shows p (resolutionBy (scaleOf p (s .weighing)) (grossOf (s .weighing))) (grossOf (s .weighing)) fits (s .weighing .stable))
             (sample needs))
             (answered-cleared p t i (s .weighing) not-reset f)
             (λ is. answered-told p t i (s .weighing) not-reset f allowed end (rw (text, is)) range)
@@ -192,7 +192,7 @@ module _
     performed-reacted l (Preset n) says =
         let typed = says .typed in
         answered-typed p t (byteIs m) (s .weighing) (no-reset (says .other)) byte-followed allowed (n .0) end (says .more) (typed .decimal) (typed .near)
-        (typed .rounded) (ap (fieldOf (resolutionIn p (s .weighing) .decimals)) (typed .printed)) (typed .range)
+        (typed .rounded) (typed-told p (resolutionIn p (s .weighing)) (map byteIn (finishedLine (t .line))) (n .0) typed) (typed .range)
     performed-reacted l (verdicts.Change n) says = change-reacted p allowed t (byteIs m) (no-reset says) s byte-followed range (n .0)
     performed-reacted l (Show n) says = answered-quietly p t (byteIs m) (s .weighing) (no-reset says) byte-followed _ (shown-silent p)
     performed-reacted l (Select u) says =

@@ -30,13 +30,13 @@ use Rattle.model.specs.declared.state.Pending.the-variants.{Nothing, Weigh, Zer
 use Rattle.model.specs.declared.state.State.{State}
 use Rattle.model.specs.declared.weighing.Weighing.{Weighing}
 use Rattle.model.specs.Groups.{reaction, withMode, withWeighing}
-use Rattle.model.specs.Profiles.{resolutionIn}
+use Rattle.model.specs.Profiles.{resolutionIn, scaleOf}
 use Rattle.model.specs.States.{isChange, isPending}
 use Rattle.text.specs.Ascii.{ascii, sameText}
 use Rattle.text.specs.Searching.{beforeSpace, hasSpace}
 use Rattle.waiting.specs.Changes.{chosenSending, started, withThreshold}
 use Rattle.waiting.specs.Waits.{begun, measuredReaction, settledReaction, begunBy, settledReactionBy}
-use Rattle.weighing.specs.Weighings.{isOutside, netOf, numberIn, stability, tareAnswer, tared, weighed, withTare, zeroed}
+use Rattle.weighing.specs.Weighings.{isOutside, netOf, numberIn, resolutionBy, stability, tareAnswer, tared, weighed, withTare, zeroed}
 use Rattle.weight.proofs.Allowed.{both-left, both-right}
 use Rattle.weight.specs.declared.changes.Threshold.{Threshold}
 use Rattle.weight.specs.declared.rounding.Resolution.{Resolution}
@@ -260,8 +260,8 @@ module _
         (keep (reaction (withWeighing s (withTare (s .weighing) 0)) (answers.Plain (headOf placeTAC A))) refl refl
         (cleared-uncarried p))
         (λ is.
-        keep (reaction s (tareAnswer (resolutionIn p (s .weighing)) (s .weighing .tare .0))) refl refl
-        (told-uncarried p (numberIn (resolutionIn p (s .weighing)) (pos (s .weighing .tare .0)))))
+        keep (reaction s (tareAnswer (scaleOf p (s .weighing)) (s .weighing .tare .0))) refl refl
+        (told-uncarried p (numberIn (resolutionBy (scaleOf p (s .weighing)) (pos (s .weighing .tare .0))) (pos (s .weighing .tare .0)))))
         (λ is. keep (unitTold s) refl refl (unit-uncarried p (s .weighing .unit)))
 
 -- SR number unit
@@ -301,7 +301,7 @@ module _ (p : Profile) (s : State) (f : List Marked) (x : Sends) (old : Follow s
       run-sent p s f (says .other) x old (run-line (situationOf p s) f h .free) c (says .text) (says .may .ruled)
   performed-sent l (Preset m) h =
       kept-sent p s f (verdict-says (situationOf p s) f (Preset m) h .other) x old (performed p s l (Preset m)) refl refl
-      (told-uncarried p (numberIn (resolutionIn p (s .weighing)) (pos (m .0))))
+      (told-uncarried p (numberIn (resolutionBy (scaleOf p (s .weighing)) (pos (m .0))) (pos (m .0))))
   performed-sent l (verdicts.Change n) h =
       let line = change-line (situationOf p s) f h in
       change-sent p s f (verdict-says (situationOf p s) f (verdicts.Change n) h) x old (line .free) (n .0)

@@ -36,8 +36,8 @@ use Rattle.weight.specs.Rounding.{allowedResolution, inRange}
 use Rattle.weight.specs.declared.loads.Load.{Load}
 use Rattle.weight.proofs.Allowed.{neither-left, neither-right, both-hold}
 use Rattle.weight.proofs.Moves.{move-known}
-use Rattle.history.specs.OnChange.{Running, Sends, off, always, asked, running, grossIn, netIn, isOver, isUnder, afterAwaited, afterSent, afterUnasked, isDue, isSent, unaskedHolds, sendsAfter, sendsHold}
-use Rattle.history.specs.Tally.{Tally, inForce, sampleIs, begins}
+use Rattle.history.specs.OnChange.{Running, Sends, off, always, asked, running, netIn, isOver, isUnder, afterAwaited, afterSent, afterUnasked, isDue, isSent, unaskedHolds, sendsAfter, sendsHold}
+use Rattle.history.specs.Tally.{Tally, grossIn, inForce, sampleIs, begins}
 use Rattle.history.specs.Waits.{Waits, isAwaiting, isEmpty}
 use Rattle.history.proofs.DueWeights.{tare-range, within-range}
 use Rattle.history.proofs.Following.{Follows, gross-is, same-in-force}

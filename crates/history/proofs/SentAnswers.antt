@@ -13,9 +13,9 @@ use Rattle.answer.specs.Lines.{lineEnd, quoted, headText, weightText, errorText
 use Rattle.model.specs.declared.profile.Profile.{Profile}
 use Rattle.model.specs.declared.weighing.Weighing.{Weighing}
 use Rattle.device.specs.Calls.{answerBytes}
-use Rattle.model.specs.Profiles.{informationText}
+use Rattle.model.specs.Profiles.{informationText, scaleOf}
 use Rattle.model.specs.Profiles.{resolutionIn}
-use Rattle.weighing.specs.Weighings.{grossOf, netOf, numberIn, stability, inLimits, weighed, zeroed, tared, zeroedBy, weighedBy, taredBy}
+use Rattle.weighing.specs.Weighings.{grossOf, netOf, numberIn, resolutionBy, stability, inLimits, weighed, zeroed, tared, zeroedBy, weighedBy, taredBy}
 use Rattle.answer.specs.declared.answer.Number.{Number}
 use Rattle.answer.specs.declared.answer.Status.{Status}
 use Rattle.answer.specs.declared.answer.Status.the-variants.{A, S, Over, Under}
@@ -76,7 +76,7 @@ module _ (p : Profile) (w : Weighing) where
   unfolding weighedBy
   weighed-sent =
       in-limits IsSent placeS (ltZ (pos (p .capacity)) (grossOf w)) (ltZ (grossOf w) (negℤ (pos (p .underload))))
-      (Weight (headOf placeS (stability w)) (numberIn (resolutionIn p w) (netOf w)))
+      (Weight (headOf placeS (stability w)) (numberIn (resolutionBy (scaleOf p w) (grossOf w)) (netOf w)))
       refl refl (λ o u. refl)
 
   pub zeroed-sent : (c : ℕ) (granted : Status) → isSilent (zeroed p w c granted .answer) ≡ false
@@ -88,7 +88,7 @@ module _ (p : Profile) (w : Weighing) where
   unfolding taredBy
   tared-sent c =
       in-limits IsSent c (ltZ (pos (p .capacity)) (grossOf w)) (ltZ (grossOf w) (pos 0))
-      (Weight (headOf c (stability w)) (numberIn (resolutionIn p w) (grossOf w)))
+      (Weight (headOf c (stability w)) (numberIn (resolutionBy (scaleOf p w) (grossOf w)) (grossOf w)))
       refl refl (λ o u. refl)
 
 -- ---- at a stable sample each is an answer of the command itself
@@ -107,8 +107,8 @@ module _ (p : Profile) (w : Weighing) where
   unfolding weighedBy answerBytes lineOf headText
   weighed-own stable =
       in-limits (Own p (ascii "S")) placeS (ltZ (pos (p .capacity)) (grossOf w)) (ltZ (grossOf w) (negℤ (pos (p .underload))))
-      (Weight (headOf placeS (stability w)) (numberIn (resolutionIn p w) (netOf w)))
-      refl refl (λ o u. rw stable (weight-own p (numberIn (resolutionIn p w) (netOf w)) .0))
+      (Weight (headOf placeS (stability w)) (numberIn (resolutionBy (scaleOf p w) (grossOf w)) (netOf w)))
+      refl refl (λ o u. rw stable (weight-own p (numberIn (resolutionBy (scaleOf p w) (grossOf w)) (netOf w)) .0))
 
   pub zeroed-own : Own p (ascii "Z") (zeroed p w placeZ A .answer)
   unfolding zeroedBy answerBytes lineOf headText
@@ -120,5 +120,5 @@ module _ (p : Profile) (w : Weighing) where
   unfolding taredBy answerBytes lineOf headText
   tared-own stable =
       in-limits (Own p (ascii "T")) placeT (ltZ (pos (p .capacity)) (grossOf w)) (ltZ (grossOf w) (pos 0))
-      (Weight (headOf placeT (stability w)) (numberIn (resolutionIn p w) (grossOf w)))
-      refl refl (λ o u. rw stable (weight-own p (numberIn (resolutionIn p w) (grossOf w)) .1))
+      (Weight (headOf placeT (stability w)) (numberIn (resolutionBy (scaleOf p w) (grossOf w)) (grossOf w)))
+      refl refl (λ o u. rw stable (weight-own p (numberIn (resolutionBy (scaleOf p w) (grossOf w)) (grossOf w)) .1))

@@ -19,13 +19,13 @@ use Rattle.answer.proofs.Names.{at-name}
 use Rattle.answer.specs.Lines.{lineEnd, quoted, statusText, headText, listedLine, listedFrom, lineOf, headOf}
 use Rattle.device.specs.Calls.{answerBytes}
 use Rattle.model.specs.declared.profile.Profile.{Profile}
-use Rattle.model.specs.Profiles.{informationText, resolutionIn}
+use Rattle.model.specs.Profiles.{informationText, scaleOf}
 use Rattle.model.specs.declared.weighing.Weighing.{Weighing}
 use Rattle.text.specs.Ascii.{ascii}
 use Rattle.weight.specs.declared.units.WeightUnit.{WeightUnit}
-use Rattle.weighing.specs.Weighings.{grossOf, netOf, numberIn, inLimits, isOutside, stability, weighed, zeroed, tared, zeroedBy, weighedBy, taredBy}
-use Rattle.history.specs.OnChange.{grossIn, netIn, isCarriedOut, isSent}
-use Rattle.history.specs.Tally.{Tally, begins}
+use Rattle.weighing.specs.Weighings.{grossOf, netOf, numberIn, resolutionBy, inLimits, isOutside, stability, weighed, zeroed, tared, zeroedBy, weighedBy, taredBy}
+use Rattle.history.specs.OnChange.{netIn, isCarriedOut, isSent}
+use Rattle.history.specs.Tally.{Tally, begins, grossIn}
 use Rattle.history.specs.Waits.{isEmpty}
 use Rattle.history.proofs.Following.{Follows, gross-is}
 use Rattle.history.proofs.SentAnswers.{in-limits}
@@ -50,7 +50,7 @@ module _ (p : Profile) (w : Weighing) where
       → ltZ (pos (p .capacity)) (grossOf w) ≡ over
       → ltZ (grossOf w) (negℤ (pos (p .underload))) ≡ under
       → w .stable ≡ stable
-      → Heads p w (inLimits placeS over under (Weight (headOf placeS (cond stable S D)) (numberIn (resolutionIn p w) (netOf w))))
+      → Heads p w (inLimits placeS over under (Weight (headOf placeS (cond stable S D)) (numberIn (resolutionBy (scaleOf p w) (grossOf w)) (netOf w))))
   unfolding answerBytes lineOf headText
   heads-by true under stable o u s =
       record { full = refl; carried = refl; stands = rw o; swings = rw o; sent = λ t e. rw (e, o) }
@@ -147,7 +147,7 @@ module _ (p : Profile) (w : Weighing) where
       in-limits (Uncarried p) placeZI (ltZ (pos (p .zeroing)) (w .load .0)) (ltZ (w .load .0) (negℤ (pos (p .zeroing)))) (Plain (headOf placeZI (stability w)))
       refl refl (λ o u. zero-by (w .stable))
 
-  tare-by : (stable : Bool) → Uncarried p (Weight (headOf placeTI (cond stable S D)) (numberIn (resolutionIn p w) (grossOf w)))
+  tare-by : (stable : Bool) → Uncarried p (Weight (headOf placeTI (cond stable S D)) (numberIn (resolutionBy (scaleOf p w) (grossOf w)) (grossOf w)))
   unfolding answerBytes lineOf headText
   tare-by true = refl
   tare-by false = refl
@@ -156,5 +156,5 @@ module _ (p : Profile) (w : Weighing) where
   pub tared-uncarried : Uncarried p (tared p w placeTI .answer)
   unfolding taredBy answerBytes lineOf headText
   tared-uncarried =
-      in-limits (Uncarried p) placeTI (ltZ (pos (p .capacity)) (grossOf w)) (ltZ (grossOf w) (pos 0)) (Weight (headOf placeTI (stability w)) (numberIn (resolutionIn p w) (grossOf w)))
+      in-limits (Uncarried p) placeTI (ltZ (pos (p .capacity)) (grossOf w)) (ltZ (grossOf w) (pos 0)) (Weight (headOf placeTI (stability w)) (numberIn (resolutionBy (scaleOf p w) (grossOf w)) (grossOf w)))
       refl refl (λ o u. tare-by (w .stable))

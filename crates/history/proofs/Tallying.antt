@@ -1,18 +1,18 @@
 -- What the tally makes of an answer, by its kind.
 -- Assumes nothing.
 use Prim.Native.Nat.{ℕ, _*_, _≤_}
-use mathlib.Core.Path.{_≡_, refl, _∙_}
+use mathlib.Core.Path.{_≡_, refl, subst, _∙_}
 use mathlib.Core.Bool.{Bool, true, false, not, _&&_, or-true}
 use mathlib.Core.List.{List}
 use borrow.Author.Tests.{le-leb}
 use lib.IntN.{ℤ, pos, natAbs, _-ℤ_}
 use Rattle.model.specs.declared.profile.Profile.{Profile}
 use Rattle.text.specs.Ascii.{ascii, sameText}
-use Rattle.text.specs.Reading.{readField, isDecimal}
+use Rattle.text.specs.Reading.{isDecimal}
 use Rattle.weight.specs.declared.rounding.Resolution.{Resolution}
 use Rattle.weight.specs.declared.units.WeightUnit.{WeightUnit}
 use Rattle.weight.specs.Rounding.{placeFemtograms, printedFemtograms, exactFemtograms, placesOf, Near}
-use Rattle.history.specs.Tally.{Input, Tally, inForce, chosenTally, withTareOf, withUnitOf, withZeroOf, taken, ends, ended, endedText, isResetLine, afterReset, latestOf, isLoaded, typedText, typedTare, exactWeight, allowance, numberFemtograms, isWhole, tenOf, compares, grantsZero, grantsTare, grantsClear, grantsTyped, tellsLimit, isUnitLine, unitSet, grantsUnit, granted, loadHolds, typedHolds, unitHolds, weightHolds, tallied, holds}
+use Rattle.history.specs.Tally.{Input, Tally, inForce, inForceAt, inSameRange, isWeightAnswer, chosenTally, withTareOf, withUnitOf, withZeroOf, taken, ends, ended, endedText, isResetLine, afterReset, latestOf, isLoaded, typedText, typedTare, exactWeight, allowance, numberFemtograms, grantsZero, grantsTare, grantsClear, grantsTyped, tellsLimit, isUnitLine, unitSet, grantsUnit, granted, loadHolds, typedHolds, unitHolds, weightHolds, tallied, holds}
 use Rattle.history.proofs.AnswerKinds.{Tests, Denied, Silent, Zeroes, Tares, Clears, Tells, Weighs, Sets}
 use Rattle.history.proofs.WeightLines.{Shows}
 
@@ -43,7 +43,7 @@ module _ (p : Profile) (t : Tally) (i : Input) (l : List ℕ) where
   tallied-line =
       let u = afterReset t i (taken t i) in
       granted-line-by (grantsZero l) (grantsTare l) (grantsClear l) (grantsTyped t i l) (grantsUnit t i l) u (latestOf u)
-      (exactFemtograms (latestOf u -ℤ u .zero)) (typedTare (inForce p t) (endedText t i)) (unitSet (endedText t i))
+      (exactFemtograms (latestOf u -ℤ u .zero)) (typedTare p (inForce p t) (endedText t i)) (unitSet (endedText t i))
       ∙ reset-line-by (ends t i && isResetLine (ended t i)) (taken t i)
 
   -- ---- the tally after the answer
@@ -67,7 +67,7 @@ module _ (p : Profile) (t : Tally) (i : Input) (l : List ℕ) where
   after-clears k = rw (k .zero-is, k .tare-is, k .clear-is)
 
   pub after-typed : Tells l → sameText (endedText t i) (ascii "TA") ≡ false
-      → tallied p t i l ≡ withTareOf (afterReset t i (taken t i)) (typedTare (inForce p t) (endedText t i)) true
+      → tallied p t i l ≡ withTareOf (afterReset t i (taken t i)) (typedTare p (inForce p t) (endedText t i)) true
   unfolding tallied granted
   after-typed k other = rw (k .zero-is, k .tare-is, k .clear-is, k .told-is, other)
 
@@ -85,6 +85,10 @@ module _ (p : Profile) (t : Tally) (i : Input) (l : List ℕ) where
 
 -- ---- a weight that is near enough
 
+same-range : (c : Bool) → inSameRange c c ≡ true
+same-range true = refl
+same-range false = refl
+
 module _ (r : Resolution) (t : Tally) (l : List ℕ) (w : ℤ) (s : Shows r w l) (near : Near (allowance r t) (printedFemtograms r (placesOf r w)) (exactWeight t l)) where
   -- the comparison of the tally
   near-enough : 2 * natAbs (numberFemtograms (r .unit) (r .decimals) (placesOf r w) -ℤ exactWeight t l) ≤ allowance r t
@@ -92,8 +96,9 @@ module _ (r : Resolution) (t : Tally) (l : List ℕ) (w : ℤ) (s : Shows r w l)
   near-enough = near
 
   -- a whole weight answer passes it
-  weight-compares : (isWhole (r .unit) l && compares r t l (readField (tenOf l))) ≡ true
-  weight-compares = rw (s .whole, s .number) (le-leb _ _ near-enough)
+  weight-passes : weightHolds r t l ≡ true
+  unfolding weightHolds
+  weight-passes = rw (s .whole, s .number, same-range (r .coarse), le-leb _ _ near-enough) (or-true (not (isWeightAnswer l)))
 
 -- ---- what is asked of the answer
 
@@ -121,24 +126,27 @@ module _ (p : Profile) (t : Tally) (i : Input) (l : List ℕ) where
   -- a weight in the resolution in force
   module _
       (r : Resolution)
-      (same : r ≡ inForce p (tallied p t i l))
+      (same : r ≡ inForceAt p (tallied p t i l) l)
       (w : ℤ)
       (s : Shows r w l)
       (near : Near (allowance r (tallied p t i l)) (printedFemtograms r (placesOf r w)) (exactWeight (tallied p t i l) l))
     where
+      -- it passes in the resolution that the tally finds in force
+      held : weightHolds (inForceAt p (tallied p t i l) l) (tallied p t i l) l ≡ true
+      held = subst (λ (x : Resolution). weightHolds x (tallied p t i l) l ≡ true) same (weight-passes r (tallied p t i l) l w s near)
+
       pub weighs-holds : Weighs l → isLoaded (taken t i) ≡ true → holds p t i l ≡ true
-      unfolding holds loadHolds typedHolds unitHolds weightHolds
-      weighs-holds k loaded = rw (k .zero-is, k .tare-is, k .told-is, k .net-is, k .unit-is, loaded, ← same) (weight-compares r (tallied p t i l) l w s near)
+      unfolding holds loadHolds typedHolds unitHolds
+      weighs-holds k loaded = rw (held, k .zero-is, k .tare-is, k .told-is, k .net-is, k .unit-is, loaded)
 
       pub tares-holds : Tares l → isLoaded (taken t i) ≡ true → holds p t i l ≡ true
-      unfolding holds loadHolds typedHolds unitHolds weightHolds
-      tares-holds k loaded = rw (k .zero-is, k .tare-is, k .told-is, k .net-is, k .unit-is, loaded, ← same) (weight-compares r (tallied p t i l) l w s near)
+      unfolding holds loadHolds typedHolds unitHolds
+      tares-holds k loaded = rw (held, k .zero-is, k .tare-is, k .told-is, k .unit-is, loaded)
 
       pub told-holds : Tells l → ends t i ≡ true → sameText (endedText t i) (ascii "TA") ≡ true → holds p t i l ≡ true
-      unfolding holds loadHolds typedHolds unitHolds weightHolds
-      told-holds k end alone = rw (k .zero-is, k .tare-is, k .told-is, k .net-is, k .unit-is, k .limit-is, end, alone, ← same) (weight-compares r (tallied p t i l) l w s near)
+      unfolding holds loadHolds typedHolds unitHolds
+      told-holds k end alone = rw (held, k .zero-is, k .tare-is, k .told-is, k .net-is, k .unit-is, k .limit-is, end, alone)
 
       pub typed-holds : Tells l → ends t i ≡ true → sameText (endedText t i) (ascii "TA") ≡ false → isDecimal (typedText (endedText t i)) ≡ true → holds p t i l ≡ true
-      unfolding holds loadHolds typedHolds unitHolds weightHolds
-      typed-holds k end other decimal =
-          rw (k .zero-is, k .tare-is, k .told-is, k .net-is, k .unit-is, k .limit-is, end, other, decimal, ← same) (weight-compares r (tallied p t i l) l w s near)
+      unfolding holds loadHolds typedHolds unitHolds
+      typed-holds k end other decimal = rw (held, k .zero-is, k .tare-is, k .told-is, k .net-is, k .unit-is, k .limit-is, end, other, decimal)

@@ -15,6 +15,8 @@ use Rattle.line.proofs.Verdicts.{GoodLine, reset-line, reset-judged, run-line, 
 use Rattle.weight.specs.declared.amount.Tare.{Tare}
 use Rattle.text.specs.Ascii.{ascii, sameText}
 use Rattle.text.specs.Searching.{beforeSpace}
+use Rattle.text.specs.Typed.{presetResolution}
+use Rattle.weight.specs.declared.rounding.Resolution.{Resolution}
 use Rattle.weight.specs.declared.units.WeightUnit.{WeightUnit}
 use Rattle.weight.proofs.Allowed.{both-left, both-right}
 use Rattle.text.proofs.Named.{same-is}
@@ -80,11 +82,15 @@ pub record RunSays (j : Situation) (f : List Marked) (c : ℕ) : Type 0 where
   pub text : map byteIn f ≡ nameOf c
   pub may : RunMay j c
 
+-- the resolution that a typed number is rounded to
+abbrev pub roundedTo : Situation → List ℕ → Resolution
+roundedTo j t = presetResolution (j .capacity) (j .fine) (j .resolution) t
+
 -- the line TA number unit
 pub record PresetSays (j : Situation) (f : List Marked) (m : Tare) : Type 0 where
   pub other : isResetLine f ≡ false
   pub more : sameText (map byteIn f) (ascii "TA") ≡ false
-  pub typed : TypedAs (j .capacity) (j .resolution) (typedText (map byteIn f)) (m .0)
+  pub typed : TypedAs (j .capacity) (roundedTo j (typedText (map byteIn f))) (typedText (map byteIn f)) (m .0)
 
 -- the line M21 0 code
 pub record SelectSays (f : List Marked) (u : WeightUnit) : Type 0 where
@@ -124,7 +130,7 @@ module _ (j : Situation) (f : List Marked) where
       record {
         other = by-verdict h;
         more = rw (line .line .bytes);
-        typed = typed-as (j .capacity) (j .resolution) (typedText (map byteIn f)) m (line .number) (line .within);
+        typed = typed-as (j .capacity) (roundedTo j (typedText (map byteIn f))) (typedText (map byteIn f)) m (line .number) (line .within);
       }
   verdict-says (Change t) h = by-verdict h
   verdict-says (Show n) h = by-verdict h

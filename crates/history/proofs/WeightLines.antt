@@ -48,30 +48,30 @@ module _ (r : Resolution) (w : ℤ) (fits : printable r w ≡ true) where
   unfolding printedNumber
   places-printed = rw fits
 
-  pub field-fits : fitsField (r .decimals) (placesOf r w) ≡ true
+  pub field-fits : fitsField (r .coarse) (r .decimals) (placesOf r w) ≡ true
   unfolding printable
   field-fits = both-right (allowedResolution r && inRange w) _ fits
 
   -- ten characters, space, unit
-  weight-pieces : weightText (numberIn r w) ≡ fieldOf (r .decimals) (placesOf r w) ++ ascii " " ++ unitText (r .unit)
+  weight-pieces : weightText (numberIn r w) ≡ fieldOf (r .coarse) (r .decimals) (placesOf r w) ++ ascii " " ++ unitText (r .unit)
   unfolding weightText
   weight-pieces = rw (places-printed, field-fits)
 
-  ten-printed : take 10 (weightText (numberIn r w) ++ lineEnd) ≡ fieldOf (r .decimals) (placesOf r w)
+  ten-printed : take 10 (weightText (numberIn r w) ++ lineEnd) ≡ fieldOf (r .coarse) (r .decimals) (placesOf r w)
   ten-printed =
       rw weight-pieces
-      (ten-first (fieldOf (r .decimals) (placesOf r w)) (ascii " ") (unitText (r .unit)) lineEnd
-      (field-length (r .decimals) (placesOf r w) field-fits))
+      (ten-first (fieldOf (r .coarse) (r .decimals) (placesOf r w)) (ascii " ") (unitText (r .unit)) lineEnd
+      (field-length (r .coarse) (r .decimals) (placesOf r w) field-fits))
 
   rest-printed : drop 10 (weightText (numberIn r w) ++ lineEnd) ≡ ascii " " ++ unitText (r .unit) ++ lineEnd
   rest-printed =
       rw weight-pieces
-      (rest-after (fieldOf (r .decimals) (placesOf r w)) (ascii " ") (unitText (r .unit)) lineEnd
-      (field-length (r .decimals) (placesOf r w) field-fits))
+      (rest-after (fieldOf (r .coarse) (r .decimals) (placesOf r w)) (ascii " ") (unitText (r .unit)) lineEnd
+      (field-length (r .coarse) (r .decimals) (placesOf r w) field-fits))
 
   -- the number is read back
-  number-back : readField (take 10 (weightText (numberIn r w) ++ lineEnd)) ≡ ReadNumber (r .decimals) (record { 0 = placesOf r w })
-  number-back = rw ten-printed (read-back (r .decimals) (placesOf r w) field-fits)
+  number-back : readField (take 10 (weightText (numberIn r w) ++ lineEnd)) ≡ ReadNumber (r .decimals) (record { 0 = placesOf r w }) (r .coarse)
+  number-back = rw ten-printed (read-back (r .coarse) (r .decimals) (placesOf r w) field-fits)
 
   -- and the unit and CR LF follow it
   rest-whole : sameText (drop 10 (weightText (numberIn r w) ++ lineEnd)) (ascii " " ++ unitText (r .unit) ++ ascii "\r\n") ≡ true
@@ -82,8 +82,8 @@ module _ (r : Resolution) (w : ℤ) (fits : printable r w ≡ true) where
 -- a whole weight answer, whose number is that of w micrograms
 pub record Shows (r : Resolution) (w : ℤ) (l : List ℕ) : Type 0 where
   pub whole : isWhole (r .unit) l ≡ true
-  pub ten : tenOf l ≡ fieldOf (r .decimals) (placesOf r w)
-  pub number : readField (tenOf l) ≡ ReadNumber (r .decimals) (record { 0 = placesOf r w })
+  pub ten : tenOf l ≡ fieldOf (r .coarse) (r .decimals) (placesOf r w)
+  pub number : readField (tenOf l) ≡ ReadNumber (r .decimals) (record { 0 = placesOf r w }) (r .coarse)
 
 module _ (p : Profile) (r : Resolution) (w : ℤ) (fits : printable r w ≡ true) where
   pub weighed-shows : (stable : Bool) → Shows r w (answerBytes p (Weight (headOf placeS (cond stable S D)) (numberIn r w)))

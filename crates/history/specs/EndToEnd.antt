@@ -12,7 +12,7 @@ use Rattle.answer.specs.declared.answer.Answer.{Answer}
 use Rattle.answer.specs.declared.answer.Answer.the-variants.{Nothing, Plain, Weight, ErrorLine, Text, Listed, CommandList, Versions, HostUnit}
 use Rattle.model.specs.declared.profile.Profile.{Profile}
 use Rattle.history.specs.Claim.{OverCalls}
-use Rattle.history.specs.Tally.{Event, Tally, startTally, inForce, numberFemtograms, exactWeight, allowance, tallied, afterEvent}
+use Rattle.history.specs.Tally.{Event, Tally, startTally, inForceAt, inSameRange, numberFemtograms, exactWeight, allowance, tallied, afterEvent}
 use Rattle.host.specs.declared.reader.Read.{Read}
 use Rattle.host.specs.declared.reader.Read.the-variants as reads
 use Rattle.host.specs.Reads.{readLine}
@@ -42,13 +42,14 @@ piecesOf l = piecesAfter [] l
 abbrev pub valueAllowance : Resolution → Tally → ℕ
 valueAllowance r t = allowance r t
 
--- of a weight: the unit in force, and a value within half a step (and half a microgram if the tare is typed) of the exact weight; of what
--- M21 tells: the unit in force
+-- of a weight: the unit and the range in force, and a value within half a step (and half a microgram if the tare is typed) of the exact
+-- weight; of what M21 tells: the unit in force
 abbrev pub valueHolds : Resolution → Tally → List ℕ → Answer → Bool
 valueHolds r t l Nothing = true
 valueHolds r t l (Plain h) = true
 valueHolds r t l (Weight h n) =
-    sameText (unitText (n .unit)) (unitText (r .unit))
+    inSameRange (r .coarse) (n .coarse)
+    && sameText (unitText (n .unit)) (unitText (r .unit))
     && leb (2 * natAbs (numberFemtograms (r .unit) (n .decimals) (n .places .0) -ℤ exactWeight t l)) (valueAllowance r t)
 valueHolds r t l (ErrorLine e) = true
 valueHolds r t l (Text c) = true
@@ -57,13 +58,13 @@ valueHolds r t l CommandList = true
 valueHolds r t l Versions = true
 valueHolds r t l (HostUnit u) = sameText (unitText u) (unitText (r .unit))
 
-abbrev pub pieceHolds : Resolution → Tally → List ℕ → Read → Bool
-pieceHolds r t l (reads.Line a place) = valueHolds r t l a
-pieceHolds r t l reads.Refused = false
+abbrev pub pieceHolds : Profile → Tally → List ℕ → Read → Bool
+pieceHolds p t l (reads.Line a place) = valueHolds (inForceAt p t l) t l a
+pieceHolds p t l reads.Refused = false
 
-unfoldable pub piecesHold : Resolution → Tally → List (List ℕ) → Bool
-piecesHold r t [] = true
-piecesHold r t (l ∷ ls) = pieceHolds r t l (readLine l) && piecesHold r t ls
+unfoldable pub piecesHold : Profile → Tally → List (List ℕ) → Bool
+piecesHold p t [] = true
+piecesHold p t (l ∷ ls) = pieceHolds p t l (readLine l) && piecesHold p t ls
 
 -- ---- a list of calls
 
@@ -71,9 +72,9 @@ unfoldable pub hostAccepts : Profile → Tally → List Event → Bool
 hostAccepts p t [] = true
 hostAccepts p t (e ∷ es) =
     let after = tallied p t (e .input) (e .answer) in
-    (not (eqb (e .refusal) 0) || piecesHold (inForce p after) after (piecesOf (e .answer)))
+    (not (eqb (e .refusal) 0) || piecesHold p after (piecesOf (e .answer)))
     && hostAccepts p (afterEvent p t e) es
 
 -- what power-on sent is read too
 abbrev pub EndToEnd : Type 0
-EndToEnd = OverCalls (λ p sent es. (piecesHold (inForce p startTally) startTally (piecesOf sent) && hostAccepts p startTally es) ≡ true)
+EndToEnd = OverCalls (λ p sent es. (piecesHold p startTally (piecesOf sent) && hostAccepts p startTally es) ≡ true)

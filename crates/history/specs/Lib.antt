@@ -1,5 +1,6 @@
 pub mod Claim
 pub mod EndToEnd
+pub mod FineOnly
 pub mod Grams
 pub mod OnChange
 pub mod Rejected

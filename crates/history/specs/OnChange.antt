@@ -16,10 +16,9 @@ use Rattle.text.specs.Ascii.{ascii, sameText}
 use Rattle.text.specs.Searching.{beforeSpace, hasSpace}
 use Rattle.text.specs.Typed.{readTyped}
 use Rattle.weight.specs.Changes.{reachesThreshold}
-use Rattle.weight.specs.Rounding.{halfUp}
 use Rattle.weight.specs.declared.units.WeightUnit.{WeightUnit}
 use Rattle.history.specs.Claim.{OverCalls}
-use Rattle.history.specs.Tally.{Event, Input, byteIs, sampleIs, Tally, startTally, inForce, latestOf, begins, tellsNet, typedText, isResetLine, afterEvent}
+use Rattle.history.specs.Tally.{Event, Input, byteIs, sampleIs, Tally, startTally, inForce, grossIn, roundedTare, begins, tellsNet, typedText, isResetLine, afterEvent}
 use Rattle.history.specs.Waits.{Waits, startWaits, isAwaiting, isEmpty, afterInput}
 
 -- ---- what it keeps
@@ -50,13 +49,7 @@ startSender = record { tally = startTally; waits = startWaits; sends = off }
 
 -- ---- the net of the latest load
 
-abbrev pub grossIn : Tally → ℤ
-grossIn t = latestOf t -ℤ t .zero
-
--- the tare in micrograms, a typed one to the nearest
-abbrev pub roundedTare : Tally → ℕ
-roundedTare t = halfUp (natAbs (t .tare)) 1_000_000_000
-
+-- a typed tare to the nearest microgram
 abbrev pub netIn : Tally → ℤ
 netIn t = grossIn t -ℤ pos (roundedTare t)
 

@@ -1,4 +1,4 @@
--- What the followers of histories refuse: short lists of calls with profile A, each with a twin that is right and accepted. A rule
+-- What the followers of histories refuse: short lists of calls with profile A, or a case of it, each with a twin that is right and accepted. A rule
 -- that a follower lacked would show here, as a wrong history that it accepts.
 -- Assumes nothing.
 use Prim.Native.Nat.{ℕ}
@@ -7,7 +7,7 @@ use mathlib.Core.Bool.{Bool, true, false, not, _&&_}
 use mathlib.Core.List.{List, [], _∷_, _++_, map}
 use lib.IntN.{ℤ, pos, negℤ}
 use Rattle.model.specs.declared.profile.Profile.{Profile}
-use Rattle.profiles.specs.ProfileA.{profileWith}
+use Rattle.profiles.specs.ProfileA.{profileA, profileFine, profileRanged, profileWith}
 use Rattle.text.specs.Ascii.{ascii}
 use Rattle.weight.specs.declared.rounding.Resolution.{Resolution}
 use Rattle.weight.specs.declared.units.WeightUnit.the-variants.{G, Mg, Ct, Oz, Gn}
@@ -61,7 +61,7 @@ pub data Follower : Type 0 where
 
 pub record Row : Type 0 where
   pub follower : Follower
-  pub resolution : Resolution
+  pub profile : Profile
   pub wrong : List Event
   pub right : List Event
 
@@ -78,22 +78,22 @@ set command = line command "M21 A\r\n"
 
 -- profile A, in grams with four decimals, in ounces with five, in grains with four, in milligrams with three and in carats with two
 abbrev pub inGrams : Follower → List Event → List Event → Row
-inGrams f wrong right = record { follower = f; resolution = record { unit = G; decimals = 4; step = 1 }; wrong = wrong; right = right }
+inGrams f wrong right = record { follower = f; profile = profileA; wrong = wrong; right = right }
 
 abbrev pub inUnit : Resolution → String → Follower → List Event → List Event → Row
-inUnit r command f wrong right = record { follower = f; resolution = r; wrong = set command ++ wrong; right = set command ++ right }
+inUnit r command f wrong right = record { follower = f; profile = profileWith r; wrong = set command ++ wrong; right = set command ++ right }
 
 abbrev pub inOunces : Follower → List Event → List Event → Row
-inOunces = inUnit (record { unit = Oz; decimals = 5; step = 1 }) "M21 0 8"
+inOunces = inUnit (record { unit = Oz; decimals = 5; step = 1; coarse = false }) "M21 0 8"
 
 abbrev pub inGrains : Follower → List Event → List Event → Row
-inGrains = inUnit (record { unit = Gn; decimals = 4; step = 1 }) "M21 0 10"
+inGrains = inUnit (record { unit = Gn; decimals = 4; step = 1; coarse = false }) "M21 0 10"
 
 abbrev pub inMilligrams : Follower → List Event → List Event → Row
-inMilligrams = inUnit (record { unit = Mg; decimals = 3; step = 1 }) "M21 0 3"
+inMilligrams = inUnit (record { unit = Mg; decimals = 3; step = 1; coarse = false }) "M21 0 3"
 
 abbrev pub inCarats : Follower → List Event → List Event → Row
-inCarats = inUnit (record { unit = Ct; decimals = 2; step = 1 }) "M21 0 5"
+inCarats = inUnit (record { unit = Ct; decimals = 2; step = 1; coarse = false }) "M21 0 5"
 
 unfoldable pub weightRows : List Row
 weightRows =
@@ -383,12 +383,88 @@ unitRows =
     (taken (stable (pos 0)) "" ++ line "SR 0.05 ct" "S S       0.00 ct\r\n" ++ taken (stable (pos 10_000)) "S S       0.05 ct\r\n")
     ∷ []
 
+-- profile A with this F, in grams; and in ounces with five decimals
+abbrev pub inFine : ℕ → Follower → List Event → List Event → Row
+inFine fine f wrong right = record { follower = f; profile = profileFine fine; wrong = wrong; right = right }
+
+abbrev pub inFineOunces : ℕ → Follower → List Event → List Event → Row
+inFineOunces fine f wrong right =
+    record {
+      follower = f;
+      profile = profileRanged fine (record { unit = Oz; decimals = 5; step = 1; coarse = false });
+      wrong = set "M21 0 8" ++ wrong;
+      right = set "M21 0 8" ++ right;
+    }
+
+abbrev pub hundred : ℕ
+hundred = 100_000_000
+
+unfoldable pub rangeRows : List Row
+rangeRows =
+    -- at F told coarse, and above it fine
+    inFine hundred tally
+    (taken (stable (pos 100_000_000)) "" ++ line "SI" "S S   100.000  g\r\n")
+    (taken (stable (pos 100_000_000)) "" ++ line "SI" "S S   100.0000 g\r\n")
+    ∷ inFine hundred tally
+    (taken (stable (pos 100_000_001)) "" ++ line "SI" "S S   100.0000 g\r\n")
+    (taken (stable (pos 100_000_001)) "" ++ line "SI" "S S   100.000  g\r\n")
+    -- a space that claims ten times the allowance below F
+    ∷ inFine hundred tally
+    (taken (stable (pos 99_999_600)) "" ++ line "SI" "S S   100.000  g\r\n")
+    (taken (stable (pos 99_999_600)) "" ++ line "SI" "S S    99.9996 g\r\n")
+    -- one microgram over half a coarse step, and half a coarse step
+    ∷ inFine hundred tally
+    (taken (stable (pos 150_000_501)) "" ++ line "SI" "S S   150.000  g\r\n")
+    (taken (stable (pos 150_000_500)) "" ++ line "SI" "S S   150.000  g\r\n")
+    -- the net decides in place of gross
+    ∷ inFine hundred tally
+    (taken (stable (pos 150_000_000)) "" ++ line "T" "T S   150.000  g\r\n" ++ taken (stable (pos 150_000_500)) "" ++ line "SI" "S S     0.0005 g\r\n")
+    (taken (stable (pos 150_000_000)) "" ++ line "T" "T S   150.000  g\r\n" ++ taken (stable (pos 150_000_500)) "" ++ line "SI" "S S     0.001  g\r\n")
+    -- gross in place of the tare
+    ∷ inFine hundred tally
+    (taken (stable (pos 50_000_000)) "" ++ line "T" "T S    50.0000 g\r\n" ++ taken (stable (pos 200_000_000)) "" ++ line "TA" "TA A    50.000  g\r\n")
+    (taken (stable (pos 50_000_000)) "" ++ line "T" "T S    50.0000 g\r\n" ++ taken (stable (pos 200_000_000)) "" ++ line "TA" "TA A    50.0000 g\r\n")
+    -- a typed tare decides by its microgram, and not by its exact decimal
+    ∷ inFineOunces 28_349_523 tally
+    (line "TA 1.00000 oz" "TA A    1.0000  oz\r\n")
+    (line "TA 1.00000 oz" "TA A    1.00000 oz\r\n")
+    -- it is rounded to the coarse step
+    ∷ inFine hundred tally
+    (line "TA 100.0004 g" "TA A   100.0000 g\r\n" ++ taken (stable (pos 100_000_000)) "" ++ line "SI" "S S    -0.0004 g\r\n")
+    (line "TA 100.0004 g" "TA A   100.0000 g\r\n" ++ taken (stable (pos 100_000_000)) "" ++ line "SI" "S S     0.0000 g\r\n")
+    -- and told in the range of what is stored
+    ∷ inFine 100_000_050 typedTares
+    (line "TA 100.00005 g" "TA A   100.0001 g\r\n")
+    (line "TA 100.00005 g" "TA A   100.000  g\r\n")
+    ∷ inFine hundred typedTares
+    (line "TA 100.0005 g" "TA A   100.0005 g\r\n")
+    (line "TA 100.0005 g" "TA A   100.001  g\r\n")
+    -- SR counts fine steps
+    ∷ inFine 0 sender
+    (runs ++ taken (stable (pos 3_000)) "")
+    (runs ++ taken (stable (pos 3_000)) "S S     0.003  g\r\n")
+    ∷ inFine 0 sender
+    (runs ++ taken (stable (pos 2_999)) "S S     0.003  g\r\n")
+    (runs ++ taken (stable (pos 2_999)) "")
+    -- the reader hands back another range, and a coarse line without its space
+    ∷ inFine hundred host
+    (taken (stable (pos 150_000_000)) "" ++ line "SI" "S S   150.0000 g\r\n")
+    (taken (stable (pos 150_000_000)) "" ++ line "SI" "S S   150.000  g\r\n")
+    ∷ inFine hundred host
+    (taken (stable (pos 150_000_000)) "" ++ line "SI" "S S   150.000 g\r\n")
+    (taken (stable (pos 150_000_000)) "" ++ line "SI" "S S   150.000  g\r\n")
+    -- without a coarse range nothing is coarse
+    ∷ inGrams tally
+    (taken (stable (pos 220_000_000)) "" ++ line "SI" "S S   220.000  g\r\n")
+    (taken (stable (pos 220_000_000)) "" ++ line "SI" "S S   220.0000 g\r\n")
+    ∷ []
+
 unfoldable pub rows : List Row
-rows = weightRows ++ stateRows ++ waitRows ++ sentRows ++ sendingRows ++ bufferRows ++ unitRows
+rows = weightRows ++ stateRows ++ waitRows ++ sentRows ++ sendingRows ++ bufferRows ++ unitRows ++ rangeRows
 
 -- the wrong one is rejected, the right one accepted
 abbrev pub tells : Row → Bool
-tells r = not (accepted (r .follower) (profileWith (r .resolution)) (r .wrong)) && accepted (r .follower) (profileWith (r .resolution)) (r .right)
+tells r = not (accepted (r .follower) (r .profile) (r .wrong)) && accepted (r .follower) (r .profile) (r .right)
 
 unfoldable pub allTell : List Row → Bool
 allTell [] = true

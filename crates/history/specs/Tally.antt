@@ -1,4 +1,4 @@
--- Document 01, "The tally of demand 3", and document 02, No. 3 and No. 5. It reads calls and answers alone, never the module's state.
+-- Document 01, "The tally of demand 3", and document 02, No. 3, No. 5 and No. 7. It reads calls and answers alone, never the module's state.
 -- Assumes nothing.
 use Prim.Native.Nat.{ℕ, zero, _+_, _-_, _*_, _^_}
 use mathlib.Core.Bool.{Bool, true, false, cond, not, _&&_, _||_}
@@ -17,8 +17,10 @@ use Rattle.weight.specs.declared.units.WeightUnit.the-variants.{G}
 use Rattle.weight.specs.declared.rounding.Resolution.{Resolution}
 use Rattle.weight.specs.Units.{nanogramsOf}
 use Rattle.text.specs.UnitTexts.{unitText}
-use Rattle.weight.specs.Rounding.{stepFemtograms, exactFemtograms}
+use Rattle.weight.specs.Ranges.{resolutionAt}
+use Rattle.weight.specs.Rounding.{halfUp, stepFemtograms, exactFemtograms}
 use Rattle.text.specs.Reading.{readField, isDecimal, decimalsIn, valueIn}
+use Rattle.text.specs.Typed.{presetResolution}
 use Rattle.weight.specs.Presets.{presetFemtograms}
 use Rattle.text.specs.declared.reading.FieldRead.{FieldRead}
 use Rattle.text.specs.declared.reading.FieldRead.the-variants.{Number, NoNumber}
@@ -55,7 +57,7 @@ pub record Tally : Type 0 where
 abbrev pub startTally : Tally
 startTally = record { line = []; latest = none; zero = pos 0; tare = pos 0; typed = false; unit = G }
 
--- the resolution in force
+-- the fine resolution of the unit in force
 unfoldable pub inForce : Profile → Tally → Resolution
 inForce p t = resolutionOf p (t .unit)
 
@@ -148,13 +150,35 @@ latestOf t = elim (t .latest) [ none ↦ pos 0 | load z ↦ z ]
 abbrev pub isLoaded : Tally → Bool
 isLoaded t = elim (t .latest) [ none ↦ false | load z ↦ true ]
 
+-- ---- the weight that decides the range (No. 7)
+
+-- the latest load less zero
+abbrev pub grossIn : Tally → ℤ
+grossIn t = latestOf t -ℤ t .zero
+
+-- the tare to the nearest microgram, a tie upwards; only a typed one is not one of whole micrograms
+abbrev pub roundedTare : Tally → ℕ
+roundedTare t = halfUp (natAbs (t .tare)) 1_000_000_000
+
+-- gross after S S and S D, the tare after the others
+abbrev pub decidingWeight : Tally → List ℕ → ℤ
+decidingWeight t l = cond (tellsNet l) (grossIn t) (pos (roundedTare t))
+
+-- the resolution in force at an answer: the step is that of the range, whatever the answer's last place holds
+abbrev pub inForceAt : Profile → Tally → List ℕ → Resolution
+inForceAt p t l = resolutionAt (p .fine) (inForce p t) (decidingWeight t l)
+
+-- ---- a typed tare
+
 -- the number in the line TA number unit
 abbrev pub typedText : List ℕ → List ℕ
 typedText l = beforeSpace (afterSpace l)
 
--- the decimal that it is rounded to, exact in femtograms (No. 3)
-abbrev pub typedTare : Resolution → List ℕ → ℤ
-typedTare r l = pos (presetFemtograms r (decimalsIn (typedText l)) (valueIn (typedText l)))
+-- the decimal that it is rounded to, exact in femtograms (No. 3); above F it is one of coarse steps, if F is below C (No. 7)
+abbrev pub typedTare : Profile → Resolution → List ℕ → ℤ
+typedTare p r l =
+    let t = typedText l in
+    pos (presetFemtograms (presetResolution (p .capacity) (p .fine) r t) (decimalsIn t) (valueIn t))
 
 -- TA A to a line other than TA
 abbrev pub grantsTyped : Tally → Input → List ℕ → Bool
@@ -176,12 +200,12 @@ unitSet l = unitOf (unitIn (afterSpace l))
 abbrev pub grantsUnit : Tally → Input → List ℕ → Bool
 grantsUnit t i l = setsUnit l && isUnitLine (ended t i)
 
-unfoldable pub granted : Resolution → Tally → Input → List ℕ → Tally → Tally
-granted r before i l t =
+unfoldable pub granted : Profile → Tally → Input → List ℕ → Tally → Tally
+granted p before i l t =
     chosenTally (grantsZero l) (withZeroOf t (latestOf t))
     (chosenTally (grantsTare l) (withTareOf t (exactFemtograms (latestOf t -ℤ t .zero)) false)
     (chosenTally (grantsClear l) (withTareOf t (pos 0) false)
-    (chosenTally (grantsTyped before i l) (withTareOf t (typedTare r (endedText before i)) true)
+    (chosenTally (grantsTyped before i l) (withTareOf t (typedTare p (inForce p before) (endedText before i)) true)
     (chosenTally (grantsUnit before i l) (withUnitOf t (unitSet (endedText before i))) t))))
 
 -- ---- Then a weight answer is compared
@@ -216,9 +240,14 @@ exactWeight t l = cond (tellsNet l) (exactFemtograms (latestOf t -ℤ t .zero) -
 abbrev pub allowance : Resolution → Tally → ℕ
 allowance r t = stepFemtograms r + cond (t .typed) 1_000_000_000 0
 
+-- the last place is a space exactly in the coarse range
+abbrev pub inSameRange : Bool → Bool → Bool
+inSameRange coarse c = cond coarse c (not c)
+
 -- number and exact weight differ by at most that
 abbrev pub compares : Resolution → Tally → List ℕ → FieldRead → Bool
-compares r t l (Number d n) = leb (2 * natAbs (numberFemtograms (r .unit) d (n .0) -ℤ exactWeight t l)) (allowance r t)
+compares r t l (Number d n c) =
+    inSameRange (r .coarse) c && leb (2 * natAbs (numberFemtograms (r .unit) d (n .0) -ℤ exactWeight t l)) (allowance r t)
 compares r t l NoNumber = false
 
 -- an answer that begins like a weight and is none is refused
@@ -242,11 +271,11 @@ unitHolds t i l = not (setsUnit l) || (ends t i && isUnitLine (ended t i))
 
 -- the tally after a call that was not refused; the resolution in force before it rounds a typed tare
 unfoldable pub tallied : Profile → Tally → Input → List ℕ → Tally
-tallied p t i l = granted (inForce p t) t i l (afterReset t i (taken t i))
+tallied p t i l = granted p t i l (afterReset t i (taken t i))
 
 unfoldable pub holds : Profile → Tally → Input → List ℕ → Bool
 holds p t i l =
-    loadHolds (taken t i) l && typedHolds t i l && unitHolds t i l && weightHolds (inForce p (tallied p t i l)) (tallied p t i l) l
+    loadHolds (taken t i) l && typedHolds t i l && unitHolds t i l && weightHolds (inForceAt p (tallied p t i l) l) (tallied p t i l) l
 
 -- A refused call changes nothing in it
 unfoldable pub afterEvent : Profile → Tally → Event → Tally

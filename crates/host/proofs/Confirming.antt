@@ -53,7 +53,7 @@ record PlainOf (l : List ℕ) (h : Head) : Type 0 where
 record WeightOf (l : List ℕ) (h : Head) (n : Number) : Type 0 where
   spaced : hasSpace l ≡ true
   head : h ≡ headGuess l
-  field : fieldGuess l ≡ fields.Number (n .decimals) (n .places)
+  field : fieldGuess l ≡ fields.Number (n .decimals) (n .places) (n .coarse)
   unit : unitGuess l ≡ Named (n .unit)
 
 record TextOf (l : List ℕ) (c : ℕ) : Type 0 where
@@ -96,8 +96,8 @@ module _ (l : List ℕ) where
   error-of false false false e f g = tt
 
   weight-of : (f : FieldRead) (u : UnitRead) → hasSpace l ≡ true → fieldGuess l ≡ f → unitGuess l ≡ u → Of l (weightGuess (headGuess l) f u)
-  weight-of (fields.Number d n) (Named u) s e g = record { spaced = s; head = refl; field = e; unit = g }
-  weight-of (fields.Number d n) Unknown s e g = tt
+  weight-of (fields.Number d n c) (Named u) s e g = record { spaced = s; head = refl; field = e; unit = g }
+  weight-of (fields.Number d n c) Unknown s e g = tt
   weight-of fields.NoNumber u s e g = tt
 
   host-unit-of : (u : UnitRead) → hasSpace l ≡ true → placeOf (beforeSpace l) ≡ placeM21 → codeGuess l ≡ u → Of l (hostUnitGuess u)
@@ -209,18 +209,18 @@ module _ (l : List ℕ) (spaced : hasSpace l ≡ true) where
         ∙ plain-same (beforeSpace l) (afterSpace l) (statusByte (h .status)) (omega (arith, cut-length)) byte
         ∙ sym (ap₂ sameText (plain-line h t ∙ ap (λ (v : List ℕ). v ++ (32 ∷ statusByte (h .status) ∷ lineEnd)) name) cut)
 
-    weight-framed : (n : Number) (t : List ℕ) → fieldGuess l ≡ fields.Number (n .decimals) (n .places) → unitGuess l ≡ Named (n .unit)
+    weight-framed : (n : Number) (t : List ℕ) → fieldGuess l ≡ fields.Number (n .decimals) (n .places) (n .coarse) → unitGuess l ≡ Named (n .unit)
         → weightForm (h .identification) (h .status) ≡ true
         → weightFrame (length (beforeSpace l)) l && isEnded l ≡ sameText (lineOf (Weight h n) t) l
     weight-framed n t field unit form =
         let w = beforeSpace l in
         let r = afterSpace l in
         let k = length l - (length w + 16) in
-        let f = fieldOf (n .decimals) (n .places .0) in
+        let f = fieldOf (n .coarse) (n .decimals) (n .places .0) in
         let name = head-name (omega (arith, weight-place (h .identification) (h .status) form .1)) in
         let byte = head-byte (λ e. false≢true (rw e at form)) in
-        let back = write-back (take 10 (drop (length w + 3) l)) (n .decimals) (n .places .0) field in
-        let ten = field-length (n .decimals) (n .places .0) (back .0) in
+        let back = write-back (take 10 (drop (length w + 3) l)) (n .coarse) (n .decimals) (n .places .0) field in
+        let ten = field-length (n .coarse) (n .decimals) (n .places .0) (back .0) in
         let cells : take 10 (drop 2 r) ≡ f = ap (take 10) (sym (drop-past 3)) ∙ sym (back .1) in
         let named : take k (drop 13 r) ≡ unitText (n .unit) = ap (take k) (sym (drop-past 14)) ∙ unit-write-back (take k (drop (length w + 14) l)) (n .unit) unit in
         let some = unit-some k (drop (length w + 14) l) (n .unit) unit in

@@ -102,15 +102,15 @@ module _ (h : Head) where
       ∙ plain-guessed (nameOf c) (name-unspaced c) (statusByte (h .status))
       ∙ rw (name-found c (plain-place c (h .status) e), status-back (h .status))
 
-  module _ (n : Number) (form : weightForm (h .identification) (h .status) ≡ true) (fits : fitsField (n .decimals) (n .places .0) ≡ true) where
+  module _ (n : Number) (form : weightForm (h .identification) (h .status) ≡ true) (fits : fitsField (n .coarse) (n .decimals) (n .places .0) ≡ true) where
     weight-guessed : (w : List ℕ) → hasSpace w ≡ false → placeOf w ≡ h .identification
-        → guessed (w ++ (32 ∷ weightRest (statusByte (h .status)) (fieldOf (n .decimals) (n .places .0)) (unitText (n .unit)))) ≡ Weight h n
+        → guessed (w ++ (32 ∷ weightRest (statusByte (h .status)) (fieldOf (n .coarse) (n .decimals) (n .places .0)) (unitText (n .unit)))) ≡ Weight h n
     weight-guessed w none p =
         let c = h .identification in
         let b = statusByte (h .status) in
-        let f = fieldOf (n .decimals) (n .places .0) in
+        let f = fieldOf (n .coarse) (n .decimals) (n .places .0) in
         let u = unitText (n .unit) in
-        let ten = field-length (n .decimals) (n .places .0) fits in
+        let ten = field-length (n .coarse) (n .decimals) (n .places .0) fits in
         let place = weight-place c (h .status) form in
         long-guessed w none (weightRest b f u) (omega (arith, length-append f (32 ∷ (u ++ lineEnd))))
         ∙ rw (
@@ -125,7 +125,7 @@ module _ (h : Head) where
           unit-guessed w none b f u ten,
           p,
           status-back (h .status),
-          read-back (n .decimals) (n .places .0) fits,
+          read-back (n .coarse) (n .decimals) (n .places .0) fits,
           unit-read-back (n .unit),
         )
 

@@ -72,14 +72,14 @@ weight-shape : (w s f u : List ℕ) (b : ℕ) → s ≡ b ∷ []
     → w ++ ascii " " ++ s ++ ascii " " ++ (f ++ ascii " " ++ u) ++ lineEnd ≡ w ++ (32 ∷ weightRest b f u)
 weight-shape w s f u b e = rw e (simp append-assoc)
 
-pub weight-line : (h : Head) (n : Number) (t : List ℕ) → fitsField (n .decimals) (n .places .0) ≡ true
+pub weight-line : (h : Head) (n : Number) (t : List ℕ) → fitsField (n .coarse) (n .decimals) (n .places .0) ≡ true
     → lineOf (Weight h n) t
     ≡ nameOf (h .identification)
-    ++ (32 ∷ weightRest (statusByte (h .status)) (fieldOf (n .decimals) (n .places .0)) (unitText (n .unit)))
+    ++ (32 ∷ weightRest (statusByte (h .status)) (fieldOf (n .coarse) (n .decimals) (n .places .0)) (unitText (n .unit)))
 unfolding lineOf headText weightText
 weight-line h n t e =
     rw e
-    (weight-shape (nameOf (h .identification)) (statusText (h .status)) (fieldOf (n .decimals) (n .places .0)) (unitText (n .unit))
+    (weight-shape (nameOf (h .identification)) (statusText (h .status)) (fieldOf (n .coarse) (n .decimals) (n .places .0)) (unitText (n .unit))
     (statusByte (h .status)) (status-text (h .status)))
 
 text-shape : (w t : List ℕ) → w ++ ascii " A " ++ quoted t ++ lineEnd ≡ w ++ (32 ∷ 65 ∷ 32 ∷ quotedEnd t)

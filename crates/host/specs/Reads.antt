@@ -45,8 +45,8 @@ statusGuess b =
     (cond (eqb b 45) Under B))))))
 
 abbrev pub weightGuess : Head → FieldRead → UnitRead → Answer
-weightGuess h (Number d n) (Named u) = Weight h (record { decimals = d; places = n; unit = u })
-weightGuess h (Number d n) Unknown = Nothing
+weightGuess h (Number d n c) (Named u) = Weight h (record { decimals = d; places = n; unit = u; coarse = c })
+weightGuess h (Number d n c) Unknown = Nothing
 weightGuess h NoNumber u = Nothing
 
 -- identification, space, status, CR LF

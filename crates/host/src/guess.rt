@@ -89,13 +89,14 @@ fn weight_guess(head: Head, field: FieldRead, unit: UnitRead) -> Answer
     ensures { λ r. ⌜ r ≡ weightGuess head field unit ⌝ }
 {
     match field {
-        FieldRead::Number(decimals, places) => match unit {
+        FieldRead::Number(decimals, places, coarse) => match unit {
             UnitRead::Named(named) => Answer::Weight(
                 head,
                 Number {
                     decimals,
                     places,
                     unit: named,
+                    coarse,
                 },
             ),
             UnitRead::Unknown => Answer::Nothing,

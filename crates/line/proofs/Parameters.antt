@@ -14,7 +14,7 @@ use Rattle.line.specs.declared.judge.Situation.{Situation}
 use Rattle.line.specs.declared.judge.Verdict.{Verdict}
 use Rattle.line.specs.declared.judge.Verdict.the-variants.{Wrong, Preset, Change, Show, Select}
 use Rattle.text.specs.Printable.{isPrintable}
-use Rattle.line.specs.Judging.{isShown, betweenQuotes, isQuoted, numberIn, presetIn, typedIn, thresholdOf, thresholdIn, unitIn}
+use Rattle.line.specs.Judging.{isShown, betweenQuotes, isQuoted, numberIn, presetFrom, presetIn, typedIn, thresholdOf, thresholdIn, unitIn}
 use Rattle.line.specs.Parts.{showRule, amountRule, presetRule, thresholdRule, changeRule, codeRule, selectRule}
 use Rattle.weight.specs.declared.amount.Tare.{Tare}
 use Rattle.weight.specs.declared.amount.Typed.{Typed}
@@ -30,7 +30,7 @@ use Rattle.text.proofs.Searching.{rest-is, quote-first}
 use Rattle.text.specs.declared.unit_texts.UnitRead.{UnitRead}
 use Rattle.text.specs.declared.unit_texts.UnitRead.the-variants.{Named, Unknown}
 use Rattle.text.specs.UnitTexts.{unitText, unitCoded}
-use Rattle.text.specs.Typed.{readPreset, readTyped}
+use Rattle.text.specs.Typed.{readTyped}
 
 -- ---- D
 
@@ -157,9 +157,9 @@ module _ (u : WeightUnit) (p : List ℕ) (i : ℕ) (at : FirstAt space p i) wher
 
 -- what is read is judged
 module _ (j : Situation) (p : List ℕ) {t : List ℕ} {n : Typed} {r : Verdict} (number : t ≡ numberIn (j .resolution .unit) p) where
-  pub preset-read : n ≡ readPreset (j .resolution) t → r ≡ amountRule (j .capacity) n → r ≡ presetRule j p
+  pub preset-read : n ≡ presetFrom j t → r ≡ amountRule (j .capacity) n → r ≡ presetRule j p
   unfolding presetRule presetIn
-  preset-read read e = e ∙ ap (amountRule (j .capacity)) (read ∙ ap (readPreset (j .resolution)) number)
+  preset-read read e = e ∙ ap (amountRule (j .capacity)) (read ∙ ap (presetFrom j) number)
 
   pub change-read : n ≡ readTyped (j .resolution .unit) t → r ≡ thresholdRule (j .capacity) n → r ≡ changeRule j p
   unfolding changeRule typedIn

@@ -11,13 +11,13 @@ use lib.ListN.{length, length-append, length-map}
 use Rattle.answer.specs.Commands.{placeIn, placeOf}
 use Rattle.line.specs.declared.judge.Situation.{Situation}
 use Rattle.line.specs.declared.judge.Verdict.the-variants.{Preset}
-use Rattle.line.specs.Judging.{hasControl, commandIn, numberIn, presetIn, isWrong, ownRule}
+use Rattle.line.specs.Judging.{hasControl, commandIn, numberIn, presetFrom, presetIn, isWrong, ownRule}
 use Rattle.line.specs.Receiving.{lineLimit}
 use Rattle.line.specs.Unbounded.{Marked, byteIn, judgementOf}
 use Rattle.text.specs.Ascii.{ascii}
 use Rattle.text.specs.Reading.{isDecimal}
 use Rattle.text.specs.Searching.{beforeSpace, afterSpace, hasSpace}
-use Rattle.text.specs.Typed.{isTyped, readPreset}
+use Rattle.text.specs.Typed.{isTyped}
 use Rattle.text.specs.UnitTexts.{unitText}
 use Rattle.text.proofs.DecimalText.{decimal-bytes}
 use Rattle.text.proofs.Named.{same-self}
@@ -91,7 +91,7 @@ module _ (j : Situation) (f : List Marked) (x : List ℕ) where
       : {m : Tare}
       → GoodLine f (ascii "TA " ++ (x ++ (space ∷ unit)))
       → isTyped x ≡ true
-      → readPreset (j .resolution) x ≡ Amount m
+      → presetFrom j x ≡ Amount m
       → m .0 ≤ j .capacity
       → j .waiting ≡ false
       → judgementOf j f ≡ Preset m

@@ -18,7 +18,7 @@ use Rattle.line.specs.declared.judge.Verdict.{Verdict}
 use Rattle.line.specs.declared.judge.Verdict.the-variants.{Erroneous, Reset, Busy, Wrong, NoSample, Run, Preset, Change, Show, Select}
 use Rattle.text.specs.Searching.{beforeSpace, afterSpace, hasSpace}
 use Rattle.text.specs.Printable.{isPrintable}
-use Rattle.line.specs.Judging.{hasControl, commandIn, isShown, betweenQuotes, isQuoted, numberIn, presetIn, typedIn, presetOf, amountIn, thresholdOf, thresholdIn, unitIn, isCoded, unitOf, isPreset, isThreshold, isWrong, ownRule, firstRow, judgement}
+use Rattle.line.specs.Judging.{hasControl, commandIn, isShown, betweenQuotes, isQuoted, numberIn, presetFrom, presetIn, typedIn, presetOf, amountIn, thresholdOf, thresholdIn, unitIn, isCoded, unitOf, isPreset, isThreshold, isWrong, ownRule, firstRow, judgement}
 use Rattle.line.specs.Receiving.{contentOf, lineLimit}
 use Rattle.line.specs.Unbounded.{Marked, byteIn, anyFaulty, judgementOf}
 use Rattle.line.proofs.Kept.{Holds}
@@ -34,7 +34,7 @@ use Rattle.text.specs.declared.unit_texts.UnitRead.{UnitRead}
 use Rattle.text.specs.declared.unit_texts.UnitRead.the-variants.{Named, Unknown}
 use Rattle.text.specs.UnitTexts.{unitText}
 use Rattle.text.specs.Reading.{isDecimal}
-use Rattle.text.specs.Typed.{isTyped, readPreset, readTyped}
+use Rattle.text.specs.Typed.{isTyped, presetResolution, readTyped}
 use Rattle.text.proofs.TypedText.{amount-is-typed, preset-of}
 use Rattle.weight.proofs.Allowed.{both-right, neither-left, neither-right}
 use Rattle.text.proofs.Named.{same-is}
@@ -234,7 +234,7 @@ pub record PresetLine (j : Situation) (f : List Marked) (m : Tare) : Type 0 wher
   pub line : GoodLine f (ascii "TA " ++ parameterIn f)
   pub parts : parameterIn f ≡ beforeSpace (parameterIn f) ++ (space ∷ unitText (j .resolution .unit))
   pub unit : afterSpace (parameterIn f) ≡ unitText (j .resolution .unit)
-  pub number : readPreset (j .resolution) (beforeSpace (parameterIn f)) ≡ Amount m
+  pub number : presetFrom j (beforeSpace (parameterIn f)) ≡ Amount m
   pub within : m .0 ≤ j .capacity
   pub free : j .waiting ≡ false
 
@@ -482,7 +482,7 @@ module _ (j : Situation) (f : List Marked) where
       (neither-left (not (isPreset j (parameterIn f)) || false) false (rw (is, both .1) at (row .right)))) in
       let amount = amount-by (j .capacity) (presetIn j (parameterIn f)) right in
       let read : presetIn j (parameterIn f) ≡ Amount m = amount .0 ∙ ap Amount (by .1) in
-      let n : Numbered (j .resolution .unit) (parameterIn f) = numbered (j .resolution .unit) (parameterIn f) (preset-of (j .resolution) _ read .typed) in
+      let n : Numbered (j .resolution .unit) (parameterIn f) = numbered (j .resolution .unit) (parameterIn f) (preset-of (presetResolution (j .capacity) (j .fine) (j .resolution) (numberIn (j .resolution .unit) (parameterIn f))) _ read .typed) in
       record {
         line = record { bytes = name-then (map byteIn f) (b .a-name) (both .1) ∙ ap (λ (x : ℕ). nameOf x ++ (space ∷ parameterIn f)) is; good = b .good };
         parts = n .parts;

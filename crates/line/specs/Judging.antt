@@ -1,5 +1,5 @@
 -- Document 01, "Receiving": the table of a finished line, its rows in the paper's order, and the parameters of D, TA, SR and M21
--- (document 02, No. 1, No. 3 and No. 5).
+-- (document 02, No. 1, No. 3, No. 5 and No. 7).
 -- Assumes nothing.
 use Prim.Native.Nat.{ℕ, _-_}
 use mathlib.Core.Bool.{Bool, true, false, cond, not, _&&_, _||_}
@@ -26,7 +26,7 @@ use Rattle.text.specs.Searching.{beforeSpace, afterSpace, hasSpace}
 use Rattle.text.specs.declared.unit_texts.UnitRead.{UnitRead}
 use Rattle.text.specs.declared.unit_texts.UnitRead.the-variants.{Named, Unknown}
 use Rattle.text.specs.UnitTexts.{unitText, unitCoded}
-use Rattle.text.specs.Typed.{readPreset, readTyped}
+use Rattle.text.specs.Typed.{presetResolution, readPreset, readTyped}
 
 -- a byte below 32
 abbrev pub hasControl : List ℕ → Bool
@@ -78,9 +78,12 @@ thresholdIn n = record { 0 = amountIn n .0 }
 unfoldable pub numberIn : WeightUnit → List ℕ → List ℕ
 numberIn u p = cond (hasSpace p && sameText (afterSpace p) (unitText u)) (beforeSpace p) []
 
--- of TA: to the display step and the microgram (document 02, No. 3)
+-- of TA: to the display step and the microgram (document 02, No. 3), above F to the coarse step, if F is below C (No. 7)
+abbrev pub presetFrom : Situation → List ℕ → Typed
+presetFrom j t = readPreset (presetResolution (j .capacity) (j .fine) (j .resolution) t) t
+
 unfoldable pub presetIn : Situation → List ℕ → Typed
-presetIn j p = readPreset (j .resolution) (numberIn (j .resolution .unit) p)
+presetIn j p = presetFrom j (numberIn (j .resolution .unit) p)
 
 -- of SR: to the microgram
 unfoldable pub typedIn : Situation → List ℕ → Typed

@@ -33,9 +33,11 @@ use weight::Tare;
 use weight::Threshold;
 use weight::WeightUnit;
 
-// What the table asks of the device: document 01's C, the resolution in force, whether a command waits, and whether there was a sample.
+// What the table asks of the device: document 01's C, document 02's F, the fine resolution of the unit in force, whether a command waits, and
+// whether there was a sample.
 pub struct Situation {
     pub capacity: u32,
+    pub fine: u32,
     pub resolution: Resolution,
     pub waiting: bool,
     pub sampled: bool,

@@ -114,7 +114,12 @@ pub fn preset_rule(situation: Situation, parameter: &[u8]) -> Verdict
 {
     let resolution = situation.resolution;
     let unit = resolution.unit;
-    let typed = read_preset(resolution, number_in(unit, parameter));
+    let typed = read_preset(
+        situation.capacity,
+        situation.fine,
+        resolution,
+        number_in(unit, parameter),
+    );
     amount_rule(situation.capacity, typed)
 }
 

@@ -36,6 +36,14 @@ fn status_number(status: Status) -> u8 {
     }
 }
 
+// What was read is a weight, fine or coarse.
+fn weight_kind(coarse: bool) -> u8 {
+    if coarse {
+        return 10;
+    }
+    2
+}
+
 fn simple(kind: u8, first: u8, second: u8, len: usize) -> Digest {
     Digest {
         head: joined(kind, first, second, 0),
@@ -59,7 +67,7 @@ fn digest_of(answer: Answer, len: usize) -> Digest {
             let one = nanograms_of(unit);
             Digest {
                 head: joined(
-                    2,
+                    weight_kind(number.coarse),
                     head.identification,
                     status_number(status),
                     number.decimals,

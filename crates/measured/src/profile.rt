@@ -1,4 +1,4 @@
-// A profile of 158 bytes: C, U, R and W, decimals and step of each unit, and the texts of I2 to I5, each after its length.
+// A profile of 162 bytes: C, U, R, W and F, decimals and step of each unit, and the texts of I2 to I5, each after its length.
 use crate::record::joined;
 use model::Profile;
 use model::Readability;
@@ -8,7 +8,7 @@ use text::byte_at;
 use text::part;
 
 // With two bytes to spare.
-const SIZE: usize = 160;
+const SIZE: usize = 164;
 
 // The bytes from `at` on, 0 past the end.
 fn copy(from: &[u8], at: usize, to: &mut [u8]) {
@@ -79,13 +79,14 @@ pub fn profile_at(profiles: &[u8], n: u32) -> Profile {
     let bytes = part(profiles, n as usize * SIZE, SIZE);
     Profile {
         capacity: number_at(bytes, 0),
+        fine: number_at(bytes, 16),
         underload: number_at(bytes, 4),
         zeroing: number_at(bytes, 8),
         timeout: number_at(bytes, 12),
-        readability: rows_of(part(bytes, 16, 18)),
-        model: text40(bytes, 34),
-        software: text40(bytes, 75),
-        serial: text20(bytes, 116),
-        release: text20(bytes, 137),
+        readability: rows_of(part(bytes, 20, 18)),
+        model: text40(bytes, 38),
+        software: text40(bytes, 79),
+        serial: text20(bytes, 120),
+        release: text20(bytes, 141),
     }
 }

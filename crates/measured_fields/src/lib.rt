@@ -24,7 +24,7 @@ fn field_at(numbers: &[u8], at: usize) -> Field {
     let high = joined(byte_at(record, 6), byte_at(record, 7), 0, 0);
     let size = low as u64 + high as u64 * 4_294_967_296;
     let negative = byte_at(record, 1) != 0;
-    field_of(byte_at(record, 0), signed_places(negative, size))
+    field_of(byte_at(record, 0), signed_places(negative, size), false)
 }
 
 // The checksum of each field and of whether it holds its number.

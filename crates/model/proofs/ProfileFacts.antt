@@ -12,14 +12,15 @@ use lib.ListN.{length, getD, take, length-take}
 use Rattle.text.specs.Printable.{isPrintable}
 use Rattle.weight.specs.declared.units.WeightUnit.{WeightUnit}
 use Rattle.weight.specs.declared.units.WeightUnit.the-variants.{G, Mg, Ct, Oz, Ozt, Gn, Dwt, Kg, Lb}
+use Rattle.weight.specs.Ranges.{ranged}
 use Rattle.weight.specs.Rounding.{allowedResolution}
 use Rattle.weight.specs.Units.{allUnits, unitPlace}
 use Rattle.weight.proofs.Allowed.{both-left, both-right}
 use Rattle.model.specs.declared.profile.Text20.{Text20}
 use Rattle.model.specs.declared.profile.Text40.{Text40}
 use Rattle.model.specs.declared.profile.Profile.{Profile}
-use Rattle.model.specs.Profiles.{capacityAllowed, underloadAllowed, zeroRangeAllowed, timeoutAllowed, resolutionOf, netsAllowed, unitAllowed, everyUnit, unitsAllowed, textAllowed20, textAllowed40, textsAllowed, profileAllowed}
-use Rattle.model.proofs.Conjunctions.{Four, four}
+use Rattle.model.specs.Profiles.{capacityAllowed, underloadAllowed, zeroRangeAllowed, timeoutAllowed, resolutionOf, netsAllowed, isRanged, coarseAllowed, fineAllowed, unitAllowed, everyUnit, unitsAllowed, textAllowed20, textAllowed40, textsAllowed, profileAllowed}
+use Rattle.model.proofs.Conjunctions.{Four, four, implied}
 
 -- the lines on C, U, R and W
 abbrev pub limitsAllowed : Profile → Bool
@@ -56,7 +57,7 @@ limits-refuse p e = rw e
 -- and with those that are the rest decides
 pub limits-allow
     : (p : Profile) → limitsAllowed p ≡ true
-    → profileAllowed p ≡ (unitsAllowed p && textsAllowed p)
+    → profileAllowed p ≡ (unitsAllowed p && textsAllowed p && fineAllowed p)
 unfolding profileAllowed
 limits-allow p e = rw e
 
@@ -87,13 +88,21 @@ each-unit f e u = let place = unit-at u in rw (place .1) at (every-at f allUnits
 pub record AllowedUnit (p : Profile) (u : WeightUnit) : Type 0 where
   pub resolution : allowedResolution (resolutionOf p u) ≡ true
   pub nets : netsAllowed p (resolutionOf p u) ≡ true
+  pub two : isRanged p ≡ true → 2 ≤ resolutionOf p u .decimals
+  pub coarse : isRanged p ≡ true → netsAllowed p (ranged true (resolutionOf p u)) ≡ true
 
 allowed-unit : (p : Profile) (u : WeightUnit) → unitAllowed p u ≡ true → AllowedUnit p u
 unfolding unitAllowed
 allowed-unit p u h =
+    let r = resolutionOf p u in
+    let fine = both-left (allowedResolution r && netsAllowed p r) (coarseAllowed p r) h in
+    let both = leb 2 (r .decimals) && netsAllowed p (ranged true r) in
+    let coarse = implied (isRanged p) both (both-right (allowedResolution r && netsAllowed p r) (coarseAllowed p r) h) in
     record {
-      resolution = both-left (allowedResolution (resolutionOf p u)) (netsAllowed p (resolutionOf p u)) h;
-      nets = both-right (allowedResolution (resolutionOf p u)) (netsAllowed p (resolutionOf p u)) h;
+      resolution = both-left (allowedResolution r) (netsAllowed p r) fine;
+      nets = both-right (allowedResolution r) (netsAllowed p r) fine;
+      two = λ e. leb-true 2 (r .decimals) (both-left (leb 2 (r .decimals)) (netsAllowed p (ranged true r)) (coarse e));
+      coarse = λ e. both-right (leb 2 (r .decimals)) (netsAllowed p (ranged true r)) (coarse e);
     }
 
 -- all lines of an allowed profile
@@ -104,13 +113,15 @@ pub record AllowedProfile (p : Profile) : Type 0 where
   pub software : textAllowed40 (p .software) ≡ true
   pub serial : textAllowed20 (p .serial) ≡ true
   pub release : textAllowed20 (p .release) ≡ true
+  pub fine : p .fine ≤ p .capacity
 
 -- they hold where the profile's test does
 pub allowed-profile : (p : Profile) → profileAllowed p ≡ true → AllowedProfile p
 unfolding profileAllowed
 allowed-profile p h =
-    let first = both-left (limitsAllowed p && unitsAllowed p) (textsAllowed p) h in
-    let texts = both-right (limitsAllowed p && unitsAllowed p) (textsAllowed p) h in
+    let before = both-left (limitsAllowed p && unitsAllowed p && textsAllowed p) (fineAllowed p) h in
+    let first = both-left (limitsAllowed p && unitsAllowed p) (textsAllowed p) before in
+    let texts = both-right (limitsAllowed p && unitsAllowed p) (textsAllowed p) before in
     let long = textAllowed40 (p .model) && textAllowed40 (p .software) in
     let short = textAllowed20 (p .serial) && textAllowed20 (p .release) in
     let longs = both-left long short texts in
@@ -122,6 +133,7 @@ allowed-profile p h =
       software = both-right (textAllowed40 (p .model)) (textAllowed40 (p .software)) longs;
       serial = both-left (textAllowed20 (p .serial)) (textAllowed20 (p .release)) shorts;
       release = both-right (textAllowed20 (p .serial)) (textAllowed20 (p .release)) shorts;
+      fine = leb-true _ _ (both-right (limitsAllowed p && unitsAllowed p && textsAllowed p) (fineAllowed p) h);
     }
 
 -- a text that is allowed is not longer than its limit

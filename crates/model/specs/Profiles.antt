@@ -1,10 +1,10 @@
 -- Document 01, "The profile": a profile is refused exactly when one of these lines is broken, those on decimals and step in any unit
--- (document 02, No. 5).
+-- (document 02, No. 5). F, the limit of the fine range, is document 02's No. 7.
 -- Assumes nothing.
 use Prim.Native.Nat.{ℕ, _+_}
-use mathlib.Core.Bool.{Bool, true, cond, _&&_}
+use mathlib.Core.Bool.{Bool, true, false, cond, not, _&&_, _||_}
 use mathlib.Core.List.{List, [], _∷_}
-use lib.Dec.{leb}
+use lib.Dec.{leb, ltb}
 use lib.IntN.{pos, negℤ}
 use lib.ListN.{take, getD}
 use Rattle.answer.specs.Commands.{isI2, isI3, isI4, isI5}
@@ -15,6 +15,7 @@ use Rattle.model.specs.declared.profile.Readability.{Readability}
 use Rattle.model.specs.declared.profile.Scale.{Scale}
 use Rattle.model.specs.declared.weighing.Weighing.{Weighing}
 use Rattle.text.specs.Printable.{isPrintable}
+use Rattle.weight.specs.Ranges.{ranged}
 use Rattle.weight.specs.Rounding.{allowedResolution, placesOf}
 use Rattle.weight.specs.Places.{fitsField}
 use Rattle.weight.specs.declared.units.WeightUnit.{WeightUnit}
@@ -50,20 +51,29 @@ noReadability = record { decimals = 0; step = 0 }
 abbrev pub resolutionFrom : List Readability → WeightUnit → Resolution
 resolutionFrom rows u =
     let row = getD rows (unitPlace u) noReadability in
-    record { unit = u; decimals = row .decimals; step = row .step }
+    record { unit = u; decimals = row .decimals; step = row .step; coarse = false }
 
 abbrev pub resolutionOf : Profile → WeightUnit → Resolution
 resolutionOf p u = resolutionFrom (p .readability) u
 
--- Every net weight from -(U+C) to C, printed, fits ten characters: the two ends do
+-- Every net weight from -(U+C) to C, printed, fits ten characters, coarse nine: the two ends do
 abbrev pub netsAllowed : Profile → Resolution → Bool
 netsAllowed p r =
-    fitsField (r .decimals) (placesOf r (negℤ (pos (p .underload + p .capacity))))
-    && fitsField (r .decimals) (placesOf r (pos (p .capacity)))
+    fitsField (r .coarse) (r .decimals) (placesOf r (negℤ (pos (p .underload + p .capacity))))
+    && fitsField (r .coarse) (r .decimals) (placesOf r (pos (p .capacity)))
+
+-- F is below C, so there is a coarse range (No. 7)
+abbrev pub isRanged : Profile → Bool
+isRanged p = ltb (p .fine) (p .capacity)
+
+-- A profile with F below C needs at least two decimals, and every net must fit coarse too
+abbrev pub coarseAllowed : Profile → Resolution → Bool
+coarseAllowed p r = not (isRanged p) || (leb 2 (r .decimals) && netsAllowed p (ranged true r))
 
 -- the lines on decimals and step and on the nets, in one unit
 unfoldable pub unitAllowed : Profile → WeightUnit → Bool
-unitAllowed p u = allowedResolution (resolutionOf p u) && netsAllowed p (resolutionOf p u)
+unitAllowed p u =
+    allowedResolution (resolutionOf p u) && netsAllowed p (resolutionOf p u) && coarseAllowed p (resolutionOf p u)
 
 -- and in every unit, whichever is in force
 abbrev pub everyUnit : (WeightUnit → Bool) → List WeightUnit → Bool
@@ -84,6 +94,10 @@ abbrev pub textsAllowed : Profile → Bool
 textsAllowed p =
     (textAllowed40 (p .model) && textAllowed40 (p .software)) && (textAllowed20 (p .serial) && textAllowed20 (p .release))
 
+-- Fine limit F: 0 to C (No. 7)
+abbrev pub fineAllowed : Profile → Bool
+fineAllowed p = leb (p .fine) (p .capacity)
+
 -- the lines of "The profile", one after another
 unfoldable pub profileAllowed : Profile → Bool
 profileAllowed p =
@@ -93,14 +107,16 @@ profileAllowed p =
     && timeoutAllowed p
     && unitsAllowed p
     && textsAllowed p
+    && fineAllowed p
 
--- the resolution in force: that of the unit in force
+-- the fine resolution of the unit in force; `resolutionAt` makes of it the one in force, by the weight that decides
 unfoldable pub resolutionIn : Profile → Weighing → Resolution
 resolutionIn p w = resolutionOf p (w .unit)
 
 -- what weighing asks of a profile
 abbrev pub scaleOf : Profile → Weighing → Scale
-scaleOf p w = record { capacity = p .capacity; underload = p .underload; zeroing = p .zeroing; resolution = resolutionIn p w }
+scaleOf p w =
+    record { capacity = p .capacity; fine = p .fine; underload = p .underload; zeroing = p .zeroing; resolution = resolutionIn p w }
 
 -- the text that goes with I2 to I5
 abbrev pub informationText : Profile → ℕ → List ℕ

@@ -4,13 +4,14 @@ ghost use mathlib.Core.Bool.{_&&_};
 ghost use lib.Dec.{leb};
 ghost use lib.ListN.{length, take};
 ghost use Rattle.text.specs.Printable.{isPrintable};
-ghost use Rattle.model.specs.Reaches.{surelyIn, closelyIn, surelyInAll, closelyInAll};
+ghost use Rattle.model.specs.Reaches.{surelyIn, closelyIn, surelyInAll, closelyInAll, coarselyIn, coarselyInAll, reachedInAll};
 ghost use Rattle.model.specs.Profiles.{capacityAllowed, underloadAllowed, zeroRangeAllowed, timeoutAllowed, textAllowed20, textAllowed40, textsAllowed, profileAllowed, resolutionFrom, resolutionIn, scaleOf};
 use crate::weighing::Weighing;
 use text::is_printable;
 use weight::Resolution;
 use weight::WeightUnit;
 use weight::fits_below_zero;
+use weight::fits_coarse;
 use weight::fits_surely;
 use weight::place_of;
 
@@ -32,8 +33,10 @@ pub struct Readability {
 }
 
 pub struct Profile {
-    // Document 01's C, U and R, in micrograms, and W (its "patience"), the samples after which a wait times out.
+    // Document 01's C, document 02's F, the limit of the fine range, U and R, in micrograms, and W (its "patience"), the samples after which
+    // a wait times out.
     pub capacity: u32,
+    pub fine: u32,
     pub underload: u32,
     pub zeroing: u32,
     pub timeout: u32,
@@ -49,6 +52,7 @@ pub struct Profile {
 // What weighing asks of a profile. A function that is not inlined takes this: a whole profile would be copied for it.
 pub struct Scale {
     pub capacity: u32,
+    pub fine: u32,
     pub underload: u32,
     pub zeroing: u32,
     pub resolution: Resolution,
@@ -62,10 +66,11 @@ fn resolution_from(rows: [Readability; 9], unit: WeightUnit) -> Resolution
         unit,
         decimals: row.decimals,
         step: row.step,
+        coarse: false,
     }
 }
 
-// The resolution in force.
+// The fine resolution of the unit in force.
 pub fn resolution_in(profile: Profile, weighing: Weighing) -> Resolution
     ensures { λ r. ⌜ r ≡ resolutionIn profile weighing ⌝ }
 {
@@ -79,6 +84,7 @@ pub fn scale_of(profile: Profile, weighing: Weighing) -> Scale
 {
     Scale {
         capacity: profile.capacity,
+        fine: profile.fine,
         underload: profile.underload,
         zeroing: profile.zeroing,
         resolution: resolution_in(profile, weighing),
@@ -211,10 +217,34 @@ fn all_reach(rows: [Readability; 9], reach: u32) -> bool
         & reaches(rows, WeightUnit::Lb, reach)
 }
 
-// In every unit, closely only where it has to be.
-fn are_reached(rows: [Readability; 9], reach: u32) -> bool
-    ensures { λ r. ⌜ r ≡ closelyInAll rows reach ⌝ }
+// The same as `reaches`, coarse too.
+fn reaches_coarse(rows: [Readability; 9], unit: WeightUnit, reach: u32) -> bool
+    ensures { λ r. ⌜ r ≡ coarselyIn rows reach unit ⌝ }
 {
+    fits_coarse(resolution_from(rows, unit), reach)
+}
+
+fn all_reach_coarse(rows: [Readability; 9], reach: u32) -> bool
+    ensures { λ r. ⌜ r ≡ coarselyInAll rows reach ⌝ }
+{
+    reaches_coarse(rows, WeightUnit::G, reach)
+        & reaches_coarse(rows, WeightUnit::Mg, reach)
+        & reaches_coarse(rows, WeightUnit::Ct, reach)
+        & reaches_coarse(rows, WeightUnit::Oz, reach)
+        & reaches_coarse(rows, WeightUnit::Ozt, reach)
+        & reaches_coarse(rows, WeightUnit::Gn, reach)
+        & reaches_coarse(rows, WeightUnit::Dwt, reach)
+        & reaches_coarse(rows, WeightUnit::Kg, reach)
+        & reaches_coarse(rows, WeightUnit::Lb, reach)
+}
+
+// In every unit: with a coarse range that test alone, since what fits coarse fits fine, and else closely only where it has to be.
+fn are_reached(rows: [Readability; 9], reach: u32, ranged: bool) -> bool
+    ensures { λ r. ⌜ r ≡ reachedInAll ranged rows reach ⌝ }
+{
+    if ranged {
+        return all_reach_coarse(rows, reach);
+    }
     if are_sure(rows, reach) {
         return true;
     }
@@ -230,5 +260,8 @@ pub fn is_profile_allowed(profile: Profile) -> bool
     }
     let rows = profile.readability;
     let reach = profile.underload + profile.capacity;
-    are_reached(rows, reach) & are_texts_allowed(profile)
+    let ranged = profile.fine < profile.capacity;
+    are_reached(rows, reach, ranged)
+        & are_texts_allowed(profile)
+        & (profile.fine <= profile.capacity)
 }

@@ -1,5 +1,6 @@
 -- Document 01, "Bench cases": profile A.
 -- Assumes nothing.
+use Prim.Native.Nat.{ℕ}
 use mathlib.Core.List.{List, _∷_, _++_}
 use lib.ListN.{replicate, set}
 use Rattle.model.specs.declared.profile.Profile.{Profile}
@@ -26,10 +27,11 @@ abbrev pub readabilityA : List Readability
 readabilityA = record { decimals = 4; step = 1 } ∷ replicate 8 (record { decimals = 2; step = 1 })
 
 -- C 220,000,000, U 1,000,000, R 4,400,000, W 3, the other texts empty
-abbrev profileOf : List Readability → Profile
-profileOf rows =
+abbrev profileOf : ℕ → List Readability → Profile
+profileOf fine rows =
     record {
       capacity = 220_000_000;
+      fine = fine;
       underload = 1_000_000;
       zeroing = 4_400_000;
       timeout = 3;
@@ -40,9 +42,17 @@ profileOf rows =
       release = noText20;
     }
 
+-- with F = C, as document 02's No. 7 has it
 abbrev pub profileA : Profile
-profileA = profileOf readabilityA
+profileA = profileOf 220_000_000 readabilityA
+
+-- the same with this F
+abbrev pub profileFine : ℕ → Profile
+profileFine fine = profileOf fine readabilityA
 
 -- a case changes decimals and step of one unit
+abbrev pub profileRanged : ℕ → Resolution → Profile
+profileRanged fine r = profileOf fine (set readabilityA (unitPlace (r .unit)) (record { decimals = r .decimals; step = r .step }))
+
 abbrev pub profileWith : Resolution → Profile
-profileWith r = profileOf (set readabilityA (unitPlace (r .unit)) (record { decimals = r .decimals; step = r .step }))
+profileWith r = profileRanged 220_000_000 r

@@ -49,6 +49,7 @@ pub fn profile_a() -> Profile
 {
     Profile {
         capacity: 220_000_000,
+        fine: 220_000_000,
         underload: 1_000_000,
         zeroing: 4_400_000,
         timeout: 3,

@@ -14,6 +14,7 @@ use script::order_of;
 use script::put_bytes;
 use script::put_marks;
 use script::sent_byte;
+use script::with_fine;
 use script::with_numbers;
 use script::with_unit;
 use told::put_state;
@@ -21,6 +22,14 @@ use told::put_state;
 fn set_numbers(session: Session, numbers: Numbers) -> Session {
     let given = session.profile;
     let profile = with_numbers(given, numbers);
+    let mut next = session;
+    next.profile = profile;
+    next
+}
+
+fn set_fine(session: Session, fine: u32) -> Session {
+    let given = session.profile;
+    let profile = with_fine(given, fine);
     let mut next = session;
     next.profile = profile;
     next
@@ -96,6 +105,7 @@ pub fn perform(session: Session, line: &[u8], out: &mut [u8]) -> Session {
         Order::On => make(session, Call::On, out),
         Order::State => tell_state(session),
         Order::Numbers(numbers) => set_numbers(session, numbers),
+        Order::Fine(fine) => set_fine(session, fine),
         Order::Unit(numbers) => set_unit(session, numbers),
         Order::Text => set_text(session, line),
         Order::Room(room) => set_room(session, room),

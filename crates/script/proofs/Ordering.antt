@@ -6,7 +6,7 @@ use mathlib.Core.List.{List}
 use Prim.Native.Nat.{ℕ, _+_, _-_, _/_, _≤_, _<_}
 use lib.Dec.{leb, ltb, eqb}
 use lib.ListN.{length, getD, drop}
-use borrow.Author.Tests.{eq-eqb, ne-eqb, lt-ltb, le-ltb}
+use borrow.Author.Tests.{eq-eqb, ne-eqb, lt-ltb, le-ltb, lt-leb, le-leb}
 use Rattle.weight.specs.Characters.{space}
 use Rattle.text.specs.Ascii.{ascii, sameText}
 use Rattle.text.specs.Searching.{FirstAt}
@@ -18,7 +18,7 @@ use Rattle.script.specs.declared.profile.UnitNumbers.{UnitNumbers}
 use Rattle.script.specs.Hex.{areHex, hexByte}
 use Rattle.script.specs.Marked.{areMarked}
 use Rattle.script.specs.Numbers.{numberOf, loadOf}
-use Rattle.script.specs.Orders.{setOrder, numbersOrder, setUnitOrder, unitOrder, textOrder, roomOrder, hexOrder, loadOrder, callOrder, lentOrder, bufferOrder, namedOrder, orderOf, commandByte, sentByte}
+use Rattle.script.specs.Orders.{setOrder, numbersOrder, setFineOrder, fineOrder, setUnitOrder, unitOrder, textOrder, roomOrder, hexOrder, loadOrder, callOrder, lentOrder, bufferOrder, namedOrder, orderOf, commandByte, sentByte}
 use Rattle.script.specs.Settings.{numbersIn, areNumbers, unitNumbersIn, areUnitNumbers, roomOf, textFits}
 use Rattle.script.specs.Words.{firstWord, afterWord, spacesIn}
 
@@ -76,6 +76,13 @@ module _ (t : List ℕ) where
 
     pub room-small : n ≤ 4096 → orders.Room n ≡ roomOrder t
     room-small h = rw (← read, le-ltb 4096 n h)
+
+  module _ {n : ℕ} (read : n ≡ numberOf t) where
+    pub fine-read : n ≤ 4_294_967_295 → orders.Fine n ≡ fineOrder t
+    fine-read h = let chosen : orders.Fine n ≡ setFineOrder n = rw (le-leb n 4_294_967_295 h) in chosen ∙ ap setFineOrder read
+
+    pub no-fine : 4_294_967_295 < n → orders.Unknown ≡ fineOrder t
+    no-fine h = let chosen : orders.Unknown ≡ setFineOrder n = rw (lt-leb n 4_294_967_295 h) in chosen ∙ ap setFineOrder read
 
   module _ (faulty : Bool) {b : Bool} (test : b ≡ areHex t) where
     pub hex-read : b ≡ true → orders.Bytes (length t / 3 + 1) faulty ≡ hexOrder faulty t
@@ -170,14 +177,19 @@ module _ (on : Bool) (l : List ℕ) {w u : List ℕ} (name : w ≡ firstWord l) 
         pub room-line : m ≡ true → r ≡ roomOrder u → r ≡ namedOrder on l
         room-line e order = rw (← name, ← rest, ← profile, no-profile, ← unit, no-unit, ← text, no-text, ← room, e) order
 
-        module _ (no-room : m ≡ false) where
-          pub call-line : (on && eqb (length w) 1) ≡ true → r ≡ callOrder l → r ≡ namedOrder on l
-          call-line e order =
-              rw (← name, ← rest, ← profile, no-profile, ← unit, no-unit, ← text, no-text, ← room, no-room, e) order
+        module _ (no-room : m ≡ false) {q : Bool} (fine : q ≡ sameText w (ascii "fine")) where
+          pub fine-line : q ≡ true → r ≡ fineOrder u → r ≡ namedOrder on l
+          fine-line e order =
+              rw (← name, ← rest, ← profile, no-profile, ← unit, no-unit, ← text, no-text, ← room, no-room, ← fine, e) order
 
-          pub no-line : (on && eqb (length w) 1) ≡ false → r ≡ orders.Unknown → r ≡ namedOrder on l
-          no-line e order =
-              rw (← name, ← rest, ← profile, no-profile, ← unit, no-unit, ← text, no-text, ← room, no-room, e) order
+          module _ (no-fine : q ≡ false) where
+            pub call-line : (on && eqb (length w) 1) ≡ true → r ≡ callOrder l → r ≡ namedOrder on l
+            call-line e order =
+                rw (← name, ← rest, ← profile, no-profile, ← unit, no-unit, ← text, no-text, ← room, no-room, ← fine, no-fine, e) order
+
+            pub no-line : (on && eqb (length w) 1) ≡ false → r ≡ orders.Unknown → r ≡ namedOrder on l
+            no-line e order =
+                rw (← name, ← rest, ← profile, no-profile, ← unit, no-unit, ← text, no-text, ← room, no-room, ← fine, no-fine, e) order
 
 -- ---- any line
 

@@ -11,13 +11,13 @@ use Rattle.text.specs.Searching.{hasByte}
 use Rattle.script.specs.declared.number.LoadRead.{LoadRead}
 use Rattle.script.specs.declared.number.LoadRead.the-variants.{Within, Beyond}
 use Rattle.script.specs.declared.order.Order.{Order}
-use Rattle.script.specs.declared.order.Order.the-variants.{Nothing, On, State, Numbers, Unit, Text, Room, Bytes, Buffer, Sample, Unknown}
+use Rattle.script.specs.declared.order.Order.the-variants.{Nothing, On, State, Numbers, Fine, Unit, Text, Room, Bytes, Buffer, Sample, Unknown}
 use Rattle.script.specs.declared.profile.Numbers as fields
 use Rattle.script.specs.declared.profile.UnitNumbers.{UnitNumbers}
 use Rattle.script.specs.Hex.{areHex, hexByte}
 use Rattle.script.specs.Marked.{areMarked}
 use Rattle.script.specs.Numbers.{numberOf, loadOf}
-use Rattle.script.specs.Settings.{numbersIn, areNumbers, unitNumbersIn, areUnitNumbers, textFits}
+use Rattle.script.specs.Settings.{inWord, numbersIn, areNumbers, unitNumbersIn, areUnitNumbers, textFits}
 use Rattle.script.specs.Words.{firstWord, afterWord, spacesIn}
 
 -- ---- the lines that set
@@ -27,6 +27,13 @@ setOrder n = cond (areNumbers n) (Numbers n) Unknown
 
 abbrev pub numbersOrder : List ℕ → Order
 numbersOrder rest = setOrder (numbersIn rest)
+
+-- F (document 02, No. 7)
+abbrev pub setFineOrder : ℕ → Order
+setFineOrder n = cond (inWord n) (Fine n) Unknown
+
+abbrev pub fineOrder : List ℕ → Order
+fineOrder rest = setFineOrder (numberOf rest)
 
 abbrev pub setUnitOrder : UnitNumbers → Order
 setUnitOrder n = cond (areUnitNumbers n) (Unit n) Unknown
@@ -81,7 +88,8 @@ namedOrder on l =
     (cond (sameText (firstWord l) (ascii "unit")) (unitOrder (afterWord l))
     (cond (sameText (firstWord l) (ascii "text")) (textOrder (afterWord l))
     (cond (sameText (firstWord l) (ascii "room")) (roomOrder (afterWord l))
-    (cond (on && eqb (length (firstWord l)) 1) (callOrder l) Unknown))))
+    (cond (sameText (firstWord l) (ascii "fine")) (fineOrder (afterWord l))
+    (cond (on && eqb (length (firstWord l)) 1) (callOrder l) Unknown)))))
 
 -- an empty line or a comment
 abbrev pub isPassedOver : List ℕ → Bool

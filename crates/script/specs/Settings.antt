@@ -44,14 +44,31 @@ areNumbers n = inWord (n .capacity) && inWord (n .underload) && inWord (n .zeroi
 abbrev pub wordOf : ℕ → ℕ
 wordOf n = cond (inWord n) n 0
 
--- the profile with these numbers and all else its own
+-- the profile with these numbers, with C for F, and all else its own
 abbrev pub withNumbers : Profile → Numbers → Profile
 withNumbers p n =
     record {
       capacity = wordOf (n .capacity);
+      fine = wordOf (n .capacity);
       underload = wordOf (n .underload);
       zeroing = wordOf (n .zeroing);
       timeout = wordOf (n .timeout);
+      readability = p .readability;
+      model = p .model;
+      software = p .software;
+      serial = p .serial;
+      release = p .release;
+    }
+
+-- the profile with this F and all else its own
+abbrev pub withFine : Profile → ℕ → Profile
+withFine p fine =
+    record {
+      capacity = p .capacity;
+      fine = fine;
+      underload = p .underload;
+      zeroing = p .zeroing;
+      timeout = p .timeout;
       readability = p .readability;
       model = p .model;
       software = p .software;
@@ -87,6 +104,7 @@ abbrev pub withUnit : Profile → UnitNumbers → Profile
 withUnit p n =
     record {
       capacity = p .capacity;
+      fine = p .fine;
       underload = p .underload;
       zeroing = p .zeroing;
       timeout = p .timeout;

@@ -17,5 +17,6 @@ pub use order::order_of;
 pub use order::sent_byte;
 pub use profile::Numbers;
 pub use profile::UnitNumbers;
+pub use profile::with_fine;
 pub use profile::with_numbers;
 pub use profile::with_unit;

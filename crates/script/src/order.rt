@@ -2,7 +2,7 @@
 ghost use mathlib.Core.Path.{_≡_};
 ghost use Prim.Native.Nat.{_≤_};
 ghost use lib.ListN.{length};
-ghost use Rattle.script.specs.Orders.{numbersOrder, unitOrder, textOrder, roomOrder, hexOrder, loadOrder, callOrder, lentOrder, bufferOrder, namedOrder, orderOf, commandByte, sentByte};
+ghost use Rattle.script.specs.Orders.{numbersOrder, fineOrder, unitOrder, textOrder, roomOrder, hexOrder, loadOrder, callOrder, lentOrder, bufferOrder, namedOrder, orderOf, commandByte, sentByte};
 ghost use Rattle.script.specs.Words.{firstWord};
 use crate::hex::are_bytes;
 use crate::hex::hex_byte;
@@ -10,6 +10,7 @@ use crate::marked::are_marked;
 use crate::number::LoadRead;
 use crate::number::load_of;
 use crate::number::number;
+use crate::profile::LARGEST_WORD;
 use crate::profile::Numbers;
 use crate::profile::UnitNumbers;
 use crate::profile::are_numbers;
@@ -36,6 +37,8 @@ pub enum Order {
     State,
     // Other numbers in the profile.
     Numbers(Numbers),
+    // Another limit of the fine range in the profile.
+    Fine(u32),
     // Other decimals and another step of a unit in the profile.
     Unit(UnitNumbers),
     // Another text in the profile.
@@ -57,6 +60,16 @@ fn numbers_order(rest: &[u8]) -> Order
     let numbers = read_numbers(rest);
     if are_numbers(numbers) {
         return Order::Numbers(numbers);
+    }
+    Order::Unknown
+}
+
+fn fine_order(rest: &[u8]) -> Order
+    ensures { λ r. ⌜ r ≡ fineOrder (now (rest .entry)) ⌝ }
+{
+    let fine = number(rest);
+    if fine <= LARGEST_WORD {
+        return Order::Fine(fine as u32);
     }
     Order::Unknown
 }
@@ -174,6 +187,9 @@ fn named_order(on: bool, line: &[u8]) -> Order
     }
     if same_text(name, b"room") {
         return room_order(rest);
+    }
+    if same_text(name, b"fine") {
+        return fine_order(rest);
     }
     if on & (name.len() == 1) {
         return call_order(line);

@@ -2,7 +2,7 @@
 ghost use mathlib.Core.Path.{_≡_};
 ghost use Rattle.script.specs.Numbers.{numberOf};
 ghost use Rattle.script.specs.Words.{firstWord};
-ghost use Rattle.script.specs.Settings.{numbersIn, areNumbers, wordOf, withNumbers, unitNumbersIn, isNamed, namedUnit, areUnitNumbers, byteOf, withUnit, roomOf, textFits};
+ghost use Rattle.script.specs.Settings.{numbersIn, areNumbers, wordOf, withNumbers, withFine, unitNumbersIn, isNamed, namedUnit, areUnitNumbers, byteOf, withUnit, roomOf, textFits};
 use crate::number::number;
 use crate::words::after_word;
 use crate::words::first_word;
@@ -15,7 +15,7 @@ use text::read_unit;
 use weight::WeightUnit;
 use weight::place_of;
 
-const LARGEST_WORD: u64 = 4_294_967_295;
+pub const LARGEST_WORD: u64 = 4_294_967_295;
 
 const LARGEST_BYTE: u64 = 255;
 
@@ -73,15 +73,26 @@ fn word_of(n: u64) -> u32
     0
 }
 
-// The profile with these numbers and all else its own.
+// The profile with these numbers, with C for the limit of the fine range, and all else its own.
 pub fn with_numbers(profile: Profile, numbers: Numbers) -> Profile
     ensures { λ r. ⌜ r ≡ withNumbers profile numbers ⌝ }
 {
     let mut next = profile;
-    next.capacity = word_of(numbers.capacity);
+    let capacity = word_of(numbers.capacity);
+    next.capacity = capacity;
+    next.fine = capacity;
     next.underload = word_of(numbers.underload);
     next.zeroing = word_of(numbers.zeroing);
     next.timeout = word_of(numbers.timeout);
+    next
+}
+
+// The profile with this limit of the fine range and all else its own.
+pub fn with_fine(profile: Profile, fine: u32) -> Profile
+    ensures { λ r. ⌜ r ≡ withFine profile fine ⌝ }
+{
+    let mut next = profile;
+    next.fine = fine;
     next
 }
 

@@ -115,20 +115,32 @@ pub fn change_waited(threshold: u32, unstable: u32) -> State {
     state
 }
 
-// Another capacity.
-pub fn bearing(capacity: u32) -> Profile {
+// Another capacity, and another limit of the fine range.
+pub fn ranged(capacity: u32, fine: u32) -> Profile {
     let mut profile = profile_a();
     profile.capacity = capacity;
+    profile.fine = fine;
     profile
 }
 
-// Other decimals, and the step 1, at a place in the order of the units.
-pub fn showing(place: usize, decimals: u8) -> Profile {
+// Another capacity, without a coarse range.
+pub fn bearing(capacity: u32) -> Profile {
+    ranged(capacity, capacity)
+}
+
+// Other decimals, and the step 1, at a place in the order of the units, and another limit of the fine range.
+pub fn showing_ranged(place: usize, decimals: u8, fine: u32) -> Profile {
     let mut profile = profile_a();
     let mut rows = profile.readability;
     if place < 9 {
         rows[place] = Readability { decimals, step: 1 };
     }
     profile.readability = rows;
+    profile.fine = fine;
     profile
+}
+
+// The same without a coarse range.
+pub fn showing(place: usize, decimals: u8) -> Profile {
+    showing_ranged(place, decimals, 220_000_000)
 }

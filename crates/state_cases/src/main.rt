@@ -12,8 +12,10 @@ use build::displayed;
 use build::held;
 use build::in_unit;
 use build::left_behind;
+use build::ranged;
 use build::repeated;
 use build::showing;
+use build::showing_ranged;
 use build::tared;
 use build::waited;
 use build::zeroed;
@@ -207,6 +209,51 @@ fn profiles_of_units() {
     switch_on(b"power on, lb with 7 decimals: ", showing(8, 7));
 }
 
+// The limit of the fine range, two decimals with a coarse range and one without, and nets that fit fine and not coarse.
+fn profiles_of_ranges() {
+    switch_on(b"power on, fine 0: ", ranged(220_000_000, 0));
+    switch_on(
+        b"power on, fine 219999999: ",
+        ranged(220_000_000, 219_999_999),
+    );
+    switch_on(
+        b"power on, fine 220000001: ",
+        ranged(220_000_000, 220_000_001),
+    );
+    switch_on(
+        b"power on, fine 4294967295: ",
+        ranged(220_000_000, 4_294_967_295),
+    );
+    switch_on(
+        b"power on, fine 219999999, kg with 2 decimals: ",
+        showing_ranged(7, 2, 219_999_999),
+    );
+    switch_on(
+        b"power on, fine 219999999, kg with 1 decimal: ",
+        showing_ranged(7, 1, 219_999_999),
+    );
+    switch_on(
+        b"power on, fine 220000000, kg with 1 decimal: ",
+        showing(7, 1),
+    );
+    switch_on(
+        b"power on, fine 0, GN with 5 decimals: ",
+        showing_ranged(5, 5, 0),
+    );
+    switch_on(
+        b"power on, fine 0, capacity 998999949: ",
+        ranged(998_999_949, 0),
+    );
+    switch_on(
+        b"power on, fine 0, capacity 998999950: ",
+        ranged(998_999_950, 0),
+    );
+    switch_on(
+        b"power on, fine 998999949, capacity 998999950: ",
+        ranged(998_999_950, 998_999_949),
+    );
+}
+
 fn try_byte(label: &[u8], profile: Profile, unit: WeightUnit) {
     try_lengths(label, profile, in_unit(unit), 1, 1);
 }
@@ -309,6 +356,7 @@ fn main() {
     changed_samples();
     orders();
     profiles_of_units();
+    profiles_of_ranges();
     units_not_in_force();
     refused_buffers();
     lengths();

@@ -91,6 +91,10 @@ pub ten-small : (d m : ℕ) → length (decimalOf d m) ≤ 10 → m < 10 ^ 10
 ten-small d m l =
     lt-of-lt-of-le (count-above d m (digitCount d m) refl) (pow-le-pow-right (omega arith) (count-within d m 10 l))
 
+-- what is not below 10 ^ 9 takes ten characters or more
+pub ten-long : (d m n : ℕ) → 10 ^ 9 ≤ m → length (decimalOf d m) ≤ n → 10 ≤ n
+ten-long d m n h l = omega (arith, count-within d m n l, count-ten d m h)
+
 -- what is not below 10 ^ 9 has ten digits and no decimals
 pub begun-ten : (x y : List ℕ) (d m r : ℕ) → length x ≡ 10 → length (decimalOf d m) ≤ 10 → 10 ^ 9 ≤ m → r ≡ m % 10 ^ 9 → y ≡ set x 0 (digit (m / 10 ^ 9))
     → Begun x d m y (record { start = 0; at = 1; high = 9; value = r })
@@ -120,6 +124,9 @@ pub whole-laid : (x y z : List ℕ) (d m : ℕ) (n : Nine) → Begun x d m y n
     → z ≡ take (n .at) y ++ lastDigits (n .high - d) (n .value / 10 ^ d) ++ drop (n .at + (n .high - d)) y
     → z ≡ take (n .start) x ++ digitsOf (m / 10 ^ d) ++ drop (n .start + length (digitsOf (m / 10 ^ d))) x
 whole-laid x y z d m n b e = e ∙ rw (b .whole, b .after, b .up-to)
+
+pub parts-room : (x : List ℕ) (d m s : ℕ) → 1 ≤ d → s + length (decimalOf d m) ≡ length x → d + 1 ≤ length x
+parts-room x d m s h e = omega (arith, length-decimal-parts d m h)
 
 module _ (x : List ℕ) (d m s : ℕ) (e : s + length (decimalOf d m) ≡ length x) where
   -- there is room for the digits before the point, and for the point and the decimals
@@ -183,6 +190,11 @@ size-room d m k n e h = rw e (omega (arith, width-parts d n))
 
 pub minus-room : (d m r k : ℕ) (n : ℤ) (t : Bool) → t ≡ not (nonNeg n) → t ≡ true → m ≡ natAbs n → widthOf d n ≤ k → r + length (decimalOf d m) ≡ k → 1 ≤ r
 minus-room d m r k n t p q e h g = omega (arith, rw (sym p ∙ q) at (width-parts d n), rw e at g)
+
+pub minus-in : (x y : List ℕ) (r d m : ℕ) (n : ℤ) (t : Bool) → t ≡ not (nonNeg n) → t ≡ true → m ≡ natAbs n
+    → widthOf d n ≤ length x → r + length (decimalOf d m) ≡ length x → y ≡ take r x ++ decimalOf d m → r - 1 < length y
+minus-in x y r d m n t p q e l g h =
+    rw (h, length-append, length-take-le r x (omega arith)) (omega (arith, minus-room d m r (length x) n t p q e l g))
 
 -- a number that is not below zero is written
 pub plain-done : (x y : List ℕ) (r d m : ℕ) (n : ℤ) (t : Bool) → t ≡ not (nonNeg n) → t ≡ false → m ≡ natAbs n

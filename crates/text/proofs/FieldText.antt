@@ -7,15 +7,16 @@ use Prim.Native.Nat.{ℕ, suc, _-_, _≤_, _<_}
 use native.Mathlib.Omega.{arith}
 use lib.Dec.{eqb, leb, ltb, leb·suc-suc}
 use lib.IntN.{ℤ}
-use lib.ListN.{length, getD, take, drop, length-drop}
+use lib.ListN.{length, getD, take, drop, length-drop, length-take}
+use lib.Seq.{take-all}
 use borrow.Author.Tests.{eq-eqb, ne-eqb}
 use Rattle.text.specs.declared.reading.FieldRead.{FieldRead}
 use Rattle.text.specs.declared.reading.FieldRead.the-variants.{Number, NoNumber}
 use Rattle.weight.specs.declared.rounding.LastPlaces.{LastPlaces}
-use Rattle.weight.specs.Characters.{minus, point}
-use Rattle.weight.specs.Places.{signed, signedPlaces}
+use Rattle.weight.specs.Characters.{space, minus, point}
+use Rattle.weight.specs.Places.{signed, signedPlaces, charactersIn}
 use Rattle.text.specs.Decimals.{ReadsDecimal, MinusAt}
-use Rattle.text.specs.Reading.{beforePoint, hasMinus, afterMinus, noLeadingZero, isDecimal, valueIn, decimalsIn, isWritten, readNumber, readField, afterSpaces}
+use Rattle.text.specs.Reading.{beforePoint, hasMinus, afterMinus, noLeadingZero, isDecimal, valueIn, decimalsIn, isWritten, readNumber, readField, afterSpaces, coarsely}
 use Rattle.text.proofs.DecimalText.{both}
 use Rattle.weight.proofs.SignedPlaces.{signed-within}
 use Rattle.text.specs.Searching.{FirstAt}
@@ -86,7 +87,7 @@ module _ (t : List ℕ) (i : ℕ) (m : MinusAt t i) (good shortest : Bool) (d v 
       go false e = refl
 
   -- the test holds: the number
-  pub read-written : (p : LastPlaces) → good && shortest && not (ltb 0 i && eqb v 0) ≡ true → p .0 ≡ signedPlaces (ltb 0 i) v → Number d p ≡ readNumber t
+  pub read-written : (p : LastPlaces) → good && shortest && not (ltb 0 i && eqb v 0) ≡ true → p .0 ≡ signedPlaces (ltb 0 i) v → Number d p false ≡ readNumber t
   unfolding readNumber
   read-written p e q =
       let g : good ≡ true = both good shortest (both (good && shortest) (not (ltb 0 i && eqb v 0)) e .0) .0 in
@@ -95,7 +96,7 @@ module _ (t : List ℕ) (i : ℕ) (m : MinusAt t i) (good shortest : Bool) (d v 
       let vn : v ≡ valueIn (afterMinus t) = decimal .number ∙ rw is in
       let z : p .0 ≡ signed (hasMinus t) (valueIn (afterMinus t)) = q ∙ signed-within (ltb 0 i) v (r .small) ∙ rw (m .has, vn) in
       rw (sym written ∙ e)
-      (ap (λ (x : ℕ). Number x p) dn ∙ ap (λ (x : ℤ). Number (decimalsIn (afterMinus t)) (record { 0 = x })) z)
+      (ap (λ (x : ℕ). Number x p false) dn ∙ ap (λ (x : ℤ). Number (decimalsIn (afterMinus t)) (record { 0 = x }) false) z)
 
   -- the test fails: none
   pub not-written : good && shortest && not (ltb 0 i && eqb v 0) ≡ false → NoNumber ≡ readNumber t
@@ -109,7 +110,27 @@ pub wrong-width : (l : List ℕ) → (length l ≡ 10 → ⊥) → NoNumber ≡ 
 unfolding readField
 wrong-width l n = rw (ne-eqb (length l) 10 n)
 
--- ten characters, i of which are the leading spaces
-pub field-read : (l : List ℕ) (i : ℕ) (x : FieldRead) → length l ≡ 10 → drop i l ≡ afterSpaces l → x ≡ readNumber (take (length l - i) (drop i l)) → x ≡ readField l
-unfolding readField
-field-read l i x h a e = rw (eq-eqb (length l) 10 h) (e ∙ ap readNumber (rest-is i l ∙ a))
+-- the number after the i leading spaces
+pub aligned-read : (l : List ℕ) (i : ℕ) (x : FieldRead) → drop i l ≡ afterSpaces l → x ≡ readNumber (take (length l - i) (drop i l)) → x ≡ readNumber (afterSpaces l)
+aligned-read l i x a e = e ∙ ap readNumber (rest-is i l ∙ a)
+
+-- as one of the coarse range, by its decimals
+pub coarse-number : {x : FieldRead} {d : ℕ} {p : LastPlaces} {c : Bool} → x ≡ Number d p c → (leb 1 d && leb d 5) ≡ true → Number d p true ≡ coarsely x
+coarse-number e h = rw (e, h)
+
+pub coarse-none : {x : FieldRead} {d : ℕ} {p : LastPlaces} {c : Bool} → x ≡ Number d p c → (leb 1 d && leb d 5) ≡ false → NoNumber ≡ coarsely x
+coarse-none e h = rw (e, h)
+
+pub front-short : (l : List ℕ) (w : ℕ) → w ≤ 10 → length (take w l) ≤ 10
+front-short l w h = rw (length-take w l) (omega (arith))
+
+-- ten characters, the last of which is a space or not
+module _ (l : List ℕ) {w : ℕ} {x : FieldRead} (h : length l ≡ 10) (width : w ≡ charactersIn (eqb (getD l 9 0) space))
+    (e : x ≡ readNumber (afterSpaces (take w l))) where
+  pub coarse-read : {y : FieldRead} → eqb (getD l 9 0) space ≡ true → y ≡ coarsely x → y ≡ readField l
+  unfolding readField
+  coarse-read b f = rw (eq-eqb (length l) 10 h, b) (f ∙ ap coarsely (rw (width, b) at e))
+
+  pub fine-read : eqb (getD l 9 0) space ≡ false → x ≡ readField l
+  unfolding readField
+  fine-read b = rw (eq-eqb (length l) 10 h, b) (rw (width, b, take-all 10 l (omega (arith, h))) at e)

@@ -1,24 +1,27 @@
--- Reading what was written gives the number and the decimals back.
+-- Reading what was written gives the number, the decimals and the range back.
 -- Assumes nothing.
-use mathlib.Core.Path.{_≡_, refl, _∙_, sym, ap}
+use mathlib.Core.Path.{_≡_, refl, _∙_, sym, ap, subst}
 use mathlib.Core.Bool.{Bool, true, false, _&&_, and-assoc, or-true}
-use mathlib.Core.List.{List, [], _∷_, _++_, append-nil}
+use mathlib.Core.List.{List, [], _∷_, _++_, append-nil, append-assoc}
 use Prim.Native.Nat.{ℕ, zero, suc, _+_, _-_, _*_, _/_, _%_, _^_, _≤_, _<_}
 use native.Mathlib.Nat.{div-one, div-div-eq-div-mul, pow-suc}
 use native.Mathlib.Omega.{arith}
 use lib.Dec.{eqb, leb, ltb}
 use lib.IntN.{ℤ, pos, negsuc}
-use lib.ListN.{length, getD, replicate, length-append, length-replicate, List·getD-append}
+use lib.ListN.{length, getD, take, replicate, length-append, List·getD-append}
+use lib.Seq.{getD-append-seam, take-at}
 use borrow.Author.Tests.{le-leb, ltb-true, ltb-false, leb-true, eq-eqb, ne-eqb}
 use Rattle.text.specs.declared.reading.FieldRead.the-variants.{Number}
 use Rattle.weight.specs.Characters.{space, minus, point, digit}
 use Rattle.weight.specs.Places.{lastDigits, digitsOf, decimalOf, numberText, widthOf, fitsField}
-use Rattle.text.specs.Field.{fieldOf}
+use Rattle.text.specs.Field.{alignedIn, fieldOf}
 use Rattle.text.specs.Reading.{beforePoint, afterPoint, hasPoint, isDigit, allDigits, numberFrom, isNumber, isDecimal, decimalsIn, valueIn}
 use Rattle.text.specs.Reading.{afterSpaces, hasMinus, noLeadingZero, isWritten, readNumber, readField}
 use Rattle.text.specs.Typed.{isTyped}
 use Rattle.weight.proofs.Digits.{digits-small, digits-step, length-last-digits, last-digits-cons}
+use Rattle.weight.proofs.Width.{fits-width, fits-decimals}
 use Rattle.text.proofs.DecimalText.{both, digit-range}
+use Rattle.text.proofs.FieldWidth.{aligned-length}
 
 -- ---- digits
 
@@ -198,7 +201,7 @@ decimal-back (suc d) m h =
 
 -- what is read of a text that no space leads
 record NumberBack (d : ℕ) (n : ℤ) (t : List ℕ) : Type 0 where
-  read : readNumber t ≡ Number d (record { 0 = n })
+  read : readNumber t ≡ Number d (record { 0 = n }) false
   first : afterSpaces t ≡ t
 
 -- no digit is a minus or a space
@@ -228,17 +231,86 @@ spaces-off : (k : ℕ) (t : List ℕ) → afterSpaces t ≡ t → afterSpaces (r
 spaces-off zero t e = e
 spaces-off (suc k) t e = spaces-off k t e
 
--- reading what was written gives the number and the decimals back
-pub read-back : (d : ℕ) (n : ℤ) → fitsField d n ≡ true → readField (fieldOf d n) ≡ Number d (record { 0 = n })
-unfolding fitsField fieldOf readField widthOf
-read-back d n e =
-    let fits = both (leb d 6) (leb (length (numberText d n)) 10) e in
-    let b = number-back d n (leb-true d 6 (fits .0)) in
-    let width = leb-true (length (numberText d n)) 10 (fits .1) in
-    let pad = replicate (10 - length (numberText d n)) space in
-    let sum = length-append pad (numberText d n) in
-    let long : length (pad ++ numberText d n) ≡ 10 = omega (arith, sum, length-replicate (10 - length (numberText d n)) space) in
-    rw (eq-eqb (length (pad ++ numberText d n)) 10 long, spaces-off (10 - length (numberText d n)) (numberText d n) (b .first)) (b .read)
+-- ---- the last place
+
+-- a text whose last byte is a digit
+record EndsIn (t : List ℕ) : Type 0 where
+  front : List ℕ
+  last : ℕ
+  small : last < 10
+  text : t ≡ front ++ (digit last ∷ [])
+
+digits-end : (m : ℕ) → EndsIn (digitsOf m)
+digits-end m = go (ltb m 10) refl
+  where
+    go : (b : Bool) → ltb m 10 ≡ b → EndsIn (digitsOf m)
+    go true e = record { front = []; last = m; small = ltb-true m 10 e; text = digits-small m (ltb-true m 10 e) }
+    go false e = record { front = digitsOf (m / 10); last = m % 10; small = omega arith; text = digits-step m (ltb-false m 10 e) }
+
+decimal-end : (d m : ℕ) → EndsIn (decimalOf d m)
+unfolding decimalOf lastDigits
+decimal-end zero m = digits-end m
+decimal-end (suc d) m =
+    record {
+      front = digitsOf (m / 10 ^ suc d) ++ (point ∷ lastDigits d (m / 10));
+      last = m % 10;
+      small = omega arith;
+      text = sym (append-assoc (digitsOf (m / 10 ^ suc d)) (point ∷ lastDigits d (m / 10)) (digit (m % 10) ∷ []));
+    }
+
+number-end : (d : ℕ) (n : ℤ) → EndsIn (numberText d n)
+unfolding numberText
+number-end d (pos m) = decimal-end d m
+number-end d (negsuc m) =
+    let e = decimal-end d (suc m) in
+    record { front = minus ∷ e .front; last = e .last; small = e .small; text = ap (λ (t : List ℕ). minus ∷ t) (e .text) }
+
+-- so what is right aligned ends in no space
+last-no-space : (a t : List ℕ) (w : ℕ) → EndsIn t → length (a ++ t) ≡ suc w → eqb (getD (a ++ t) w 0) space ≡ false
+last-no-space a t w e long =
+    let cut : a ++ t ≡ (a ++ e .front) ++ (digit (e .last) ∷ []) = rw (e .text) (sym (append-assoc a (e .front) (digit (e .last) ∷ []))) in
+    let front : length (a ++ e .front) ≡ w = omega (arith, long, ap length cut, length-append (a ++ e .front) (digit (e .last) ∷ [])) in
+    let last : getD (a ++ t) w 0 ≡ digit (e .last) = rw (cut, ← front) (getD-append-seam (a ++ e .front) (digit (e .last)) [] 0) in
+    rw last (ne-eqb (digit (e .last)) space (λ p. omega (arith, e .small)))
+
+-- ---- the field
+
+module _ (d : ℕ) (n : ℤ) where
+  -- reading what is right aligned in w characters
+  aligned-back : (w : ℕ) → d ≤ 6 → readNumber (afterSpaces (alignedIn w d n)) ≡ Number d (record { 0 = n }) false
+  aligned-back w few =
+      let b = number-back d n few in
+      rw (spaces-off (w - widthOf d n) (numberText d n) (b .first)) (b .read)
+
+  fine-back : fitsField false d n ≡ true → readField (fieldOf false d n) ≡ Number d (record { 0 = n }) false
+  unfolding fieldOf readField
+  fine-back e =
+      let long = aligned-length 10 d n (fits-width false d n e) in
+      rw (eq-eqb (length (alignedIn 10 d n)) 10 long, last-no-space (replicate (10 - widthOf d n) space) (numberText d n) 9 (number-end d n) long)
+      (aligned-back 10 (leb-true d 6 (fits-decimals false d n e)))
+
+  coarse-back : fitsField true d n ≡ true → readField (fieldOf true d n) ≡ Number d (record { 0 = n }) true
+  unfolding fieldOf readField
+  coarse-back e =
+      let a = alignedIn 9 d n in
+      let nine = aligned-length 9 d n (fits-width true d n e) in
+      let decimals = both (leb 1 d) (leb d 5) (fits-decimals true d n e) in
+      let long : length (a ++ (space ∷ [])) ≡ 10 = rw (length-append, nine) in
+      let last : getD (a ++ (space ∷ [])) 9 0 ≡ space = subst (λ (i : ℕ). getD (a ++ (space ∷ [])) i 0 ≡ space) nine (getD-append-seam a space [] 0) in
+      let front : take 9 (a ++ (space ∷ [])) ≡ a = take-at a (space ∷ []) 9 nine in
+      rw (
+        eq-eqb (length (a ++ (space ∷ []))) 10 long,
+        eq-eqb (getD (a ++ (space ∷ [])) 9 0) space last,
+        front,
+        aligned-back 9 (omega (arith, leb-true d 5 (decimals .1))),
+        decimals .0,
+        decimals .1,
+      )
+
+-- reading what was written gives the number, the decimals and the range back
+pub read-back : (c : Bool) (d : ℕ) (n : ℤ) → fitsField c d n ≡ true → readField (fieldOf c d n) ≡ Number d (record { 0 = n }) c
+read-back true d n e = coarse-back d n e
+read-back false d n e = fine-back d n e
 
 -- a number that is not below zero, typed as it was written
 pub record TypedBack (d m : ℕ) (t : List ℕ) : Type 0 where
@@ -246,7 +318,7 @@ pub record TypedBack (d m : ℕ) (t : List ℕ) : Type 0 where
   pub places : decimalsIn t ≡ d
   pub number : valueIn t ≡ m
 
-pub typed-back : (d m : ℕ) → fitsField d (pos m) ≡ true → TypedBack d m (afterSpaces (fieldOf d (pos m)))
+pub typed-back : (d m : ℕ) → fitsField false d (pos m) ≡ true → TypedBack d m (afterSpaces (fieldOf false d (pos m)))
 unfolding fitsField fieldOf widthOf numberText isTyped
 typed-back d m e =
     let fits = both (leb d 6) (leb (length (decimalOf d m)) 10) e in

@@ -16,6 +16,7 @@ use Rattle.weight.specs.declared.amount.Typed.{Typed}
 use Rattle.weight.specs.declared.amount.Typed.the-variants.{Amount, TooLarge, NotTyped}
 use Rattle.weight.specs.Amounts.{largestCapacity, amountOf, typedAmount}
 use Rattle.weight.specs.Presets.{largestTyped, presetPlaces, presetMicrograms, presetAmount}
+use Rattle.weight.specs.Ranges.{typedResolution}
 use Rattle.weight.specs.Rounding.{allowedResolution}
 use Rattle.weight.proofs.Allowed.{both-left, both-right}
 use Rattle.weight.proofs.Presets.{preset-again}
@@ -23,7 +24,7 @@ use Rattle.weight.proofs.TypedLimit.{typed-amount}
 use Rattle.text.specs.Decimals.{ReadsDecimal}
 use Rattle.text.specs.Field.{fieldOf}
 use Rattle.text.specs.Reading.{afterSpaces, isDecimal, decimalsIn, valueIn}
-use Rattle.text.specs.Typed.{isTyped, readTyped, readPreset, ReadsTyped}
+use Rattle.text.specs.Typed.{isTyped, readTyped, presetResolution, readPreset, ReadsTyped}
 use Rattle.text.proofs.DecimalText.{decimals-limit}
 use Rattle.text.proofs.ReadBack.{TypedBack}
 
@@ -61,15 +62,26 @@ module _ {t : List ℕ} {good : Bool} {d v : ℕ} (number : ReadsTyped t good d 
   unfolding readTyped
   typed-stray u e = rw (sym (number .is) ∙ e)
 
-  pub preset-read : {n : Typed} (r : Resolution) → good ≡ true → n ≡ presetAmount r d v → n ≡ readPreset r t
+  to-resolution : {n : Typed} (r : Resolution) → good ≡ true → n ≡ presetAmount r d v → n ≡ readPreset r t
   unfolding readPreset presetAmount
-  preset-read r e read =
+  to-resolution r e read =
       let is : isTyped t ≡ true = sym (number .is) ∙ e in
       let places : d ≡ decimalsIn t = rw (number .places, is) in
       let few : decimalsIn t ≤ 6 = decimals-limit t (typed-decimal t is) in
       let same : v ≡ valueIn t = rw (number .number, is) in
       read
       ∙ rw (le-leb v largestTyped (number .small), places, le-leb (decimalsIn t) 6 few, is, and-true (allowedResolution r), and-true (allowedResolution r), same)
+
+  -- to the resolution of its range
+  pub preset-read : {n : Typed} {range : Resolution} (capacity fine : ℕ) (r : Resolution) → good ≡ true
+      → range ≡ typedResolution capacity fine r d v → n ≡ presetAmount range d v → n ≡ readPreset (presetResolution capacity fine r t) t
+  unfolding presetResolution
+  preset-read {range = range} capacity fine r e same read =
+      let is : isTyped t ≡ true = sym (number .is) ∙ e in
+      let places : d ≡ decimalsIn t = rw (number .places, is) in
+      let value : v ≡ valueIn t = rw (number .number, is) in
+      let range-is : range ≡ typedResolution capacity fine r (decimalsIn t) (valueIn t) = rw (← places, ← value) same in
+      rw (← range-is) (to-resolution range e read)
 
   pub preset-stray : (r : Resolution) → good ≡ false → NotTyped ≡ readPreset r t
   unfolding readPreset
@@ -111,8 +123,8 @@ preset-of r t e =
 -- typing the decimal that a number was rounded to gives its amount again
 pub preset-read-again : {m : Tare} (r : Resolution) (t : List ℕ) → readPreset r t ≡ Amount m →
     let n = presetPlaces r (decimalsIn t) (valueIn t) in
-    TypedBack (r .decimals) n (afterSpaces (fieldOf (r .decimals) (pos n)))
-    → readPreset r (afterSpaces (fieldOf (r .decimals) (pos n))) ≡ Amount m
+    TypedBack (r .decimals) n (afterSpaces (fieldOf false (r .decimals) (pos n)))
+    → readPreset r (afterSpaces (fieldOf false (r .decimals) (pos n))) ≡ Amount m
 unfolding readPreset
 preset-read-again r t e back =
     let of = preset-of r t e in

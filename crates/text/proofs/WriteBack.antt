@@ -6,19 +6,19 @@ use mathlib.Core.List.{List, [], _∷_, _++_, append-nil}
 use Prim.Native.Nat.{ℕ, zero, suc, _+_, _-_, _*_, _/_, _%_, _^_, _≤_, _<_}
 use native.Mathlib.Nat.{div-one}
 use native.Mathlib.Omega.{arith}
-use lib.Dec.{eqb}
+use lib.Dec.{eqb, leb}
 use lib.IntN.{ℤ, pos, negℤ}
-use lib.ListN.{length, drop, replicate, length-append, length-replicate}
-use lib.Seq.{append-snoc}
+use lib.ListN.{length, getD, take, drop, replicate, length-append, length-replicate}
+use lib.Seq.{append-snoc, length-take-le, take-all, take-suc}
 use borrow.Author.Tests.{le-leb, lt-leb, eqb-true, eqb-false, not-true}
 use Rattle.text.specs.declared.reading.FieldRead.{FieldRead}
 use Rattle.text.specs.declared.reading.FieldRead.the-variants.{Number, NoNumber}
 use Rattle.weight.specs.declared.rounding.LastPlaces.{LastPlaces}
 use Rattle.weight.specs.Characters.{space, minus, point, digit}
 use Rattle.weight.specs.Places.{lastDigits, digitsOf, decimalOf, numberText, widthOf, fitsField, signed}
-use Rattle.text.specs.Field.{fieldOf}
+use Rattle.text.specs.Field.{alignedIn, fieldOf}
 use Rattle.text.specs.Reading.{beforePoint, afterPoint, hasPoint, isDigit, allDigits, numberFrom, isNumber, isDecimal, decimalsIn, valueIn}
-use Rattle.text.specs.Reading.{afterSpaces, hasMinus, afterMinus, noLeadingZero, isWritten, readNumber, readField}
+use Rattle.text.specs.Reading.{afterSpaces, hasMinus, afterMinus, noLeadingZero, isWritten, readNumber, coarsely, readField}
 use Rattle.weight.proofs.Digits.{digits-small, digits-step, last-digits-cons}
 use Rattle.text.proofs.DecimalText.{both, digit-range, DecimalParts, decimal-parts, number-parts}
 use Rattle.text.proofs.ReadBack.{shifted}
@@ -166,38 +166,88 @@ spaces-back (c ∷ l) = go (eqb c space) refl (spaces-back l)
     go false e r = (0, refl)
 
 -- a case that gives a number was taken, and gives that number
-taken : (b : Bool) (x : FieldRead) (d : ℕ) (p : LastPlaces) → cond b x NoNumber ≡ Number d p → (b ≡ true) × (x ≡ Number d p)
-taken true x d p e = (refl, e)
-taken false x d p e = let z : _≡_ {A = ℕ} 0 1 = cc in absurd (omega arith)
+taken : (b : Bool) (x : FieldRead) (d : ℕ) (p : LastPlaces) (c : Bool) → cond b x NoNumber ≡ Number d p c → (b ≡ true) × (x ≡ Number d p c)
+taken true x d p c e = (refl, e)
+taken false x d p c e = let z : _≡_ {A = ℕ} 0 1 = cc in absurd (omega arith)
 
 -- equal readings have equal parts
-same-number : (a b : ℕ) (p q : LastPlaces) → Number a p ≡ Number b q → (a ≡ b) × (p ≡ q)
-same-number a b p q e = (cc, cc)
+same-number : (a b : ℕ) (p q : LastPlaces) (c e : Bool) → Number a p c ≡ Number b q e → (a ≡ b) × ((p ≡ q) × (c ≡ e))
+same-number a b p q c e h = (cc, (cc, cc))
 
--- a number that is read is written
-written-number : (t : List ℕ) (d : ℕ) (n : ℤ) → readNumber t ≡ Number d (record { 0 = n }) → Written t d n
+-- a number that is read is written, and none of the coarse range
+written-number : (t : List ℕ) (d : ℕ) (n : ℤ) (c : Bool) → readNumber t ≡ Number d (record { 0 = n }) c → Written t d n × (c ≡ false)
 unfolding readNumber
-written-number t d n e =
+written-number t d n c e =
     let a = afterMinus t in
     let z = signed (hasMinus t) (valueIn a) in
-    let c = taken (isWritten t) (Number (decimalsIn a) (record { 0 = z })) d (record { 0 = n }) e in
-    let w = number-text t (c .0) in
-    let s = same-number (decimalsIn a) d (record { 0 = z }) (record { 0 = n }) (c .1) in
-    let sn : z ≡ n = ap (λ (p : LastPlaces). p .0) (s .1) in
-    record { few = rw (s .0) at (w .few); text = rw (s .0, sn) at (w .text) }
+    let k = taken (isWritten t) (Number (decimalsIn a) (record { 0 = z }) false) d (record { 0 = n }) c e in
+    let w = number-text t (k .0) in
+    let s = same-number (decimalsIn a) d (record { 0 = z }) (record { 0 = n }) false c (k .1) in
+    let sn : z ≡ n = ap (λ (p : LastPlaces). p .0) (s .1 .0) in
+    (record { few = rw (s .0) at (w .few); text = rw (s .0, sn) at (w .text) }, sym (s .1 .1))
 
--- writing what was read gives the bytes back
-pub write-back : (l : List ℕ) (d : ℕ) (n : ℤ) → readField l ≡ Number d (record { 0 = n }) → (fitsField d n ≡ true) × (fieldOf d n ≡ l)
-unfolding readField fitsField fieldOf widthOf
-write-back l d n e =
-    let c = taken (eqb (length l) 10) (readNumber (afterSpaces l)) d (record { 0 = n }) e in
-    let w = written-number (afterSpaces l) d n (c .1) in
+-- what is right aligned in w characters
+record Aligned (l : List ℕ) (w d : ℕ) (n : ℤ) : Type 0 where
+  narrow : widthOf d n ≤ w
+  text : alignedIn w d n ≡ l
+
+aligned : (l : List ℕ) (w d : ℕ) (n : ℤ) → length l ≡ w → Written (afterSpaces l) d n → Aligned l w d n
+unfolding widthOf
+aligned l w d n long h =
     let s = spaces-back l in
-    let ten = eqb-true (length l) 10 (c .0) in
     let sum = ap length (s .1) ∙ length-append (replicate (s .0) space) (afterSpaces l) in
     let pad = length-replicate (s .0) space in
-    let width = ap length (w .text) in
-    let rest : 10 - length (numberText d n) ≡ s .0 = omega (arith, ten, sum, pad, width) in (
-      rw (le-leb d 6 (w .few), le-leb (length (numberText d n)) 10 (omega (arith, ten, sum, pad, width))),
-      rw (rest, w .text) (sym (s .1)),
-    )
+    let width = ap length (h .text) in
+    let rest : w - length (numberText d n) ≡ s .0 = omega (arith, long, sum, pad, width) in
+    record { narrow = omega (arith, long, sum, pad, width); text = rw (rest, h .text) (sym (s .1)) }
+
+-- a number of the coarse range has its decimals, and was read as one of the fine range
+record Coarsened (x : FieldRead) (d : ℕ) (p : LastPlaces) (c : Bool) : Type 0 where
+  range : c ≡ true
+  decimals : leb 1 d && leb d 5 ≡ true
+  read : (b : Bool) × (x ≡ Number d p b)
+
+coarsened : (x : FieldRead) (d : ℕ) (p : LastPlaces) (c : Bool) → coarsely x ≡ Number d p c → Coarsened x d p c
+coarsened (Number a q b) d p c e =
+    let k = taken (leb 1 a && leb a 5) (Number a q true) d p c e in
+    let s = same-number a d q p true c (k .1) in
+    record { range = sym (s .1 .1); decimals = rw (s .0) at (k .0); read = (b, rw (s .0, s .1 .0)) }
+coarsened NoNumber d p c e = let z : _≡_ {A = ℕ} 0 1 = cc in absurd (omega arith)
+
+written-fine : {l : List ℕ} {d : ℕ} {n : ℤ} → Aligned l 10 d n → d ≤ 6 → (fitsField false d n ≡ true) × (fieldOf false d n ≡ l)
+unfolding fitsField fieldOf
+written-fine {l} {d} {n} a few = (rw (le-leb d 6 few, le-leb (widthOf d n) 10 (a .narrow)), a .text)
+
+written-coarse : {l : List ℕ} {d : ℕ} {n : ℤ} → Aligned (take 9 l) 9 d n → leb 1 d && leb d 5 ≡ true → getD l 9 0 ≡ space → length l ≡ 10
+    → (fitsField true d n ≡ true) × (fieldOf true d n ≡ l)
+unfolding fitsField fieldOf
+written-coarse {l} {d} {n} a decimals last ten = (
+  rw (decimals, le-leb (widthOf d n) 9 (a .narrow)),
+  rw (a .text, ← last) (sym (take-suc l 9 0 (omega (arith, ten))) ∙ take-all 10 l (omega (arith, ten))),
+)
+
+-- writing what was read gives the bytes back
+pub write-back : (l : List ℕ) (c : Bool) (d : ℕ) (n : ℤ) → readField l ≡ Number d (record { 0 = n }) c → (fitsField c d n ≡ true) × (fieldOf c d n ≡ l)
+unfolding readField
+write-back l c d n e =
+    let k = taken (eqb (length l) 10) _ d (record { 0 = n }) c e in
+    go (eqb (getD l 9 0) space) refl (eqb-true (length l) 10 (k .0)) (k .1)
+  where
+    fine : length l ≡ 10 → readNumber (afterSpaces l) ≡ Number d (record { 0 = n }) c → (fitsField c d n ≡ true) × (fieldOf c d n ≡ l)
+    fine ten h =
+        let w = written-number (afterSpaces l) d n c h in
+        let a = aligned l 10 d n ten (w .0) in
+        rw (w .1) (written-fine a (w .0 .few))
+
+    coarse : getD l 9 0 ≡ space → length l ≡ 10 → coarsely (readNumber (afterSpaces (take 9 l))) ≡ Number d (record { 0 = n }) c → (fitsField c d n ≡ true) × (fieldOf c d n ≡ l)
+    coarse last ten h =
+        let k = coarsened (readNumber (afterSpaces (take 9 l))) d (record { 0 = n }) c h in
+        let w = written-number (afterSpaces (take 9 l)) d n (k .read .0) (k .read .1) in
+        let a = aligned (take 9 l) 9 d n (length-take-le 9 l (omega (arith, ten))) (w .0) in
+        rw (k .range) (written-coarse a (k .decimals) last ten)
+
+    go : (b : Bool) → eqb (getD l 9 0) space ≡ b → length l ≡ 10
+        → cond b (coarsely (readNumber (afterSpaces (take 9 l)))) (readNumber (afterSpaces l)) ≡ Number d (record { 0 = n }) c
+        → (fitsField c d n ≡ true) × (fieldOf c d n ≡ l)
+    go true b ten h = coarse (eqb-true (getD l 9 0) space b) ten h
+    go false b ten h = fine ten h

@@ -5,7 +5,7 @@ use Prim.Native.Nat.{ℕ, _+_, _-_, _*_}
 use mathlib.Core.Bool.{Bool, true, false, cond, not, _&&_, _||_}
 use mathlib.Core.List.{List, [], _∷_}
 use lib.Dec.{leb, eqb}
-use lib.ListN.{length, getD, drop}
+use lib.ListN.{length, getD, take, drop}
 use Rattle.text.specs.declared.reading.FieldRead.{FieldRead}
 use Rattle.text.specs.declared.reading.FieldRead.the-variants.{Number, NoNumber}
 use Rattle.weight.specs.Characters.{space, minus, point, digit}
@@ -80,8 +80,17 @@ isWritten t =
 unfoldable pub readNumber : List ℕ → FieldRead
 readNumber t =
     cond (isWritten t)
-    (Number (decimalsIn (afterMinus t)) (record { 0 = signed (hasMinus t) (valueIn (afterMinus t)) }))
+    (Number (decimalsIn (afterMinus t)) (record { 0 = signed (hasMinus t) (valueIn (afterMinus t)) }) false)
     NoNumber
 
+-- the same of the coarse range (document 02, No. 7): 1 to 5 decimals
+abbrev pub coarsely : FieldRead → FieldRead
+coarsely (Number d n coarse) = cond (leb 1 d && leb d 5) (Number d n true) NoNumber
+coarsely NoNumber = NoNumber
+
+-- ten characters; coarse exactly if the tenth is a space, and then the nine before it
 unfoldable pub readField : List ℕ → FieldRead
-readField l = cond (eqb (length l) 10) (readNumber (afterSpaces l)) NoNumber
+readField l =
+    cond (eqb (length l) 10)
+    (cond (eqb (getD l 9 0) space) (coarsely (readNumber (afterSpaces (take 9 l)))) (readNumber (afterSpaces l)))
+    NoNumber

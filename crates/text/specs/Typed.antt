@@ -1,4 +1,4 @@
--- Document 01, "What each command does", TA number unit, and document 02, No. 3: the text of a typed number.
+-- Document 01, "What each command does", TA number unit, and document 02, No. 3 and No. 7: the text of a typed number.
 -- Assumes nothing.
 use Prim.Native.Nat.{ℕ, _≤_}
 use mathlib.Core.Path.{_≡_}
@@ -12,6 +12,7 @@ use Rattle.weight.specs.declared.amount.Typed.{Typed}
 use Rattle.weight.specs.declared.amount.Typed.the-variants.{NotTyped}
 use Rattle.weight.specs.Amounts.{typedMicrograms, amountOf}
 use Rattle.weight.specs.Presets.{largestTyped, presetMicrograms}
+use Rattle.weight.specs.Ranges.{typedResolution}
 use Rattle.weight.specs.Rounding.{allowedResolution}
 use Rattle.text.specs.Reading.{isDecimal, decimalsIn, valueIn}
 
@@ -27,6 +28,10 @@ readTyped u t = cond (isTyped t) (amountOf (typedMicrograms u (decimalsIn t) (va
 unfoldable pub readPreset : Resolution → List ℕ → Typed
 readPreset r t =
     cond (allowedResolution r && isTyped t) (amountOf (presetMicrograms r (decimalsIn t) (valueIn t))) NotTyped
+
+-- to the resolution of its range: the coarse one for a number above F, if F is below C (document 02, No. 7)
+unfoldable pub presetResolution : ℕ → ℕ → Resolution → List ℕ → Resolution
+presetResolution capacity fine r t = typedResolution capacity fine r (decimalsIn t) (valueIn t)
 
 -- whether t is a typed number, its decimals and its number without the point
 pub record ReadsTyped (t : List ℕ) (good : Bool) (decimals value : ℕ) : Type 0 where

@@ -1,10 +1,10 @@
-// The ten characters of a weight: the number is written from its first digit to its last, each by subtracting a power of ten.
+// The ten characters of a weight, or nine and a space: the number is written from its first digit to its last, each by subtracting a power of ten.
 ghost use mathlib.Core.Path.{_≡_};
 ghost use mathlib.Core.List.{_∷_, _++_};
 ghost use Prim.Native.Nat.{_+_, _-_, _/_, _%_, _^_, _≤_, _<_};
 ghost use lib.ListN.{length, take, drop, set};
 ghost use Rattle.weight.specs.Characters.{point, digit};
-ghost use Rattle.weight.specs.Places.{lastDigits, decimalOf, numberText, widthOf, fitsField};
+ghost use Rattle.weight.specs.Places.{lastDigits, decimalOf, numberText, widthOf, charactersIn, fitsField};
 ghost use Rattle.text.specs.Digits.{Begun};
 ghost use Rattle.text.specs.Field.{digitCount, fieldIf};
 use weight::LastPlaces;
@@ -128,8 +128,8 @@ fn put_billions(out: &mut [u8], value: u64) -> u32
 
 // The digits of a number that 32 bits hold: all of them, or nine after the first of ten, which is written.
 fn nine_digits(out: &mut [u8], decimals: u32, size: u64) -> Nine
-    requires { ⌜ length (now out) ≡ 10 ⌝ }
-    requires { ⌜ length (decimalOf decimals size) ≤ 10 ⌝ }
+    requires { ⌜ length (now out) ≤ 10 ⌝ }
+    requires { ⌜ length (decimalOf decimals size) ≤ length (now out) ⌝ }
     ensures { λ r. ⌜ Begun (now (out .entry)) decimals size (now (out .exit)) r ⌝ }
 {
     if BILLION <= size {
@@ -143,7 +143,7 @@ fn nine_digits(out: &mut [u8], decimals: u32, size: u64) -> Nine
     }
     let value = size as u32;
     let high = digit_count(decimals, value);
-    let mut start = 10 - high as usize;
+    let mut start = out.len() - high as usize;
     if 0 < decimals {
         start -= 1;
     }
@@ -170,8 +170,8 @@ fn put_decimals(out: &mut [u8], decimals: u32, value: u32)
 // Writes a number without its sign up to the end of `out`; answers where it starts. Nine digits and ten share the call that writes them: a
 // compiler that knew how many there are would know the powers.
 fn decimal(out: &mut [u8], decimals: u32, size: u64) -> usize
-    requires { ⌜ length (now out) ≡ 10 ⌝ }
-    requires { ⌜ length (decimalOf decimals size) ≤ 10 ⌝ }
+    requires { ⌜ length (now out) ≤ 10 ⌝ }
+    requires { ⌜ length (decimalOf decimals size) ≤ length (now out) ⌝ }
     ensures { λ r. ⌜ r + length (decimalOf decimals size) ≡ length (now (out .entry)) ⌝ }
     ensures { λ r. ⌜ now (out .exit) ≡ take r (now (out .entry)) ++ decimalOf decimals size ⌝ }
 {
@@ -185,7 +185,7 @@ fn decimal(out: &mut [u8], decimals: u32, size: u64) -> usize
 
 // Writes a number up to the end of `out`, a minus before it if it is below zero.
 fn number(out: &mut [u8], decimals: u8, places: LastPlaces)
-    requires { ⌜ length (now out) ≡ 10 ⌝ }
+    requires { ⌜ length (now out) ≤ 10 ⌝ }
     requires { ⌜ widthOf decimals (places .0) ≤ length (now out) ⌝ }
     ensures { λ r. ⌜ now (out .exit) ≡ take (length (now (out .entry)) - widthOf decimals (places .0)) (now (out .entry)) ++ numberText decimals (places .0) ⌝ }
 {
@@ -196,13 +196,25 @@ fn number(out: &mut [u8], decimals: u8, places: LastPlaces)
     }
 }
 
+// The characters that a number may take.
+pub fn width_in(coarse: bool) -> usize
+    ensures { λ r. ⌜ r ≡ charactersIn coarse ⌝ }
+    ensures { λ r. ⌜ r ≤ 10 ⌝ }
+{
+    if coarse {
+        return 9;
+    }
+    10
+}
+
 // The ten characters of a number, or ten spaces where it does not fit.
-pub fn field_of(decimals: u8, places: LastPlaces) -> Field
-    ensures { λ r. ⌜ r ≡ fieldIf (fitsField decimals (places .0)) decimals (places .0) ⌝ }
+pub fn field_of(decimals: u8, places: LastPlaces, coarse: bool) -> Field
+    ensures { λ r. ⌜ r ≡ fieldIf (fitsField coarse decimals (places .0)) coarse decimals (places .0) ⌝ }
 {
     let mut cells = [SPACE; 10];
-    if fits(decimals, places) {
-        number(&mut cells, decimals, places);
+    if fits(decimals, places, coarse) {
+        let width = width_in(coarse);
+        number(&mut cells[..width], decimals, places);
         return Field { fits: true, cells };
     }
     Field { fits: false, cells }

@@ -5,7 +5,9 @@ ghost use lib.ListN.{length, drop};
 ghost use Rattle.weight.specs.Characters.{point};
 ghost use Rattle.text.specs.Decimals.{TenDigits, ReadsWhole, ReadsDecimal, MinusAt};
 ghost use Rattle.text.specs.Searching.{FirstAt};
+ghost use Rattle.text.specs.Reading as meaning;
 ghost use Rattle.text.specs.Reading.{afterSpaces, beforePoint, noLeadingZero, readNumber, readField};
+use crate::field::width_in;
 use classes::ALL;
 use classes::DIGITS;
 use classes::POINTS;
@@ -14,9 +16,9 @@ use classes::first_in;
 use weight::LastPlaces;
 use weight::signed_places;
 
-// What ten characters are read as: the decimals and the number.
+// What ten characters are read as: the decimals and the number, and whether it is one of the coarse range.
 pub enum FieldRead {
-    Number(u8, LastPlaces),
+    Number(u8, LastPlaces, bool),
     NoNumber,
 }
 
@@ -34,6 +36,8 @@ pub struct Decimal {
 }
 
 const FIELD_WIDTH: usize = 10;
+
+const LAST_PLACE: usize = 9;
 
 const MOST_DECIMALS: usize = 6;
 
@@ -154,18 +158,52 @@ fn read_number(text: &[u8]) -> FieldRead
     let shortest = no_leading_zero(digits);
     let minus_zero = negative & (number.value == 0);
     if number.good & shortest & !minus_zero {
-        return FieldRead::Number(number.decimals, signed_places(negative, number.value));
+        return FieldRead::Number(
+            number.decimals,
+            signed_places(negative, number.value),
+            false,
+        );
     }
     FieldRead::NoNumber
 }
 
-// A field of ten characters.
+// A number right aligned in the text.
+fn read_aligned(text: &[u8]) -> FieldRead
+    requires { ⌜ length (now text) ≤ 10 ⌝ }
+    ensures { λ r. ⌜ r ≡ readNumber (afterSpaces (now (text .entry))) ⌝ }
+{
+    let start = space_count(text);
+    read_number(&text[start..])
+}
+
+// The same number as one of the coarse range, if it has 1 to 5 decimals.
+fn coarsely(read: FieldRead) -> FieldRead
+    ensures { λ r. ⌜ r ≡ meaning.coarsely read ⌝ }
+{
+    match read {
+        FieldRead::Number(decimals, places, coarse) => {
+            if (1 <= decimals) & (decimals <= 5) {
+                FieldRead::Number(decimals, places, true)
+            } else {
+                FieldRead::NoNumber
+            }
+        }
+        FieldRead::NoNumber => FieldRead::NoNumber,
+    }
+}
+
+// A field of ten characters: coarse, the last of them is a space.
 pub fn read_field(text: &[u8]) -> FieldRead
     ensures { λ r. ⌜ r ≡ readField (now (text .entry)) ⌝ }
 {
     if text.len() != FIELD_WIDTH {
         return FieldRead::NoNumber;
     }
-    let start = space_count(text);
-    read_number(&text[start..])
+    let coarse = text[LAST_PLACE] == b' ';
+    let width = width_in(coarse);
+    let read = read_aligned(&text[..width]);
+    if coarse {
+        return coarsely(read);
+    }
+    read
 }

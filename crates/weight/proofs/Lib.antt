@@ -14,6 +14,7 @@ mod Nearest
 pub mod Presets
 mod Printable
 mod Range
+pub mod Coarse
 pub mod SignedPlaces
 pub mod Sure
 pub mod TypedLimit

@@ -21,6 +21,6 @@ module _ (r : Resolution) (net : ℤ) where
   unfolding printable
   not-rounded e = rw e
 
-  pub by-width : (b : Bool) → allowedResolution r && inRange net ≡ true → fitsField (r .decimals) (placesOf r net) ≡ b → printable r net ≡ b
+  pub by-width : (b : Bool) → allowedResolution r && inRange net ≡ true → fitsField (r .coarse) (r .decimals) (placesOf r net) ≡ b → printable r net ≡ b
   unfolding printable
   by-width b e k = rw e k

@@ -15,18 +15,19 @@ use Rattle.weight.specs.Units.{nanogramsOf}
 use Rattle.weight.specs.Rounding.{allowedResolution}
 use Rattle.weight.specs.Printing.{fitsBelowZero, isKnownStep, isNear, largestReach, sureDecimals, surelyFits}
 use Rattle.weight.proofs.Allowed.{both-left, both-right, known-step, few-decimals, too-many-decimals}
-use Rattle.weight.proofs.BelowZero.{scaled, displayStep, below-zero-test}
+use Rattle.weight.specs.Ranges.{fitsCoarse}
+use Rattle.weight.proofs.BelowZero.{scaled, displayStep, below-zero-test, coarse-test}
 
 -- the sizes up to which the quick test's decimals are meant
 abbrev pub reachOf : Bool → ℕ
 reachOf near = cond near 600_000_000 largestReach
 
--- with n decimals no step of a unit is below a microgram and every net up to m fits, whatever the step; with fewer than 6 of them the
--- unit is so light that 2 x 10^8 of it stay within a word
+-- with n decimals no step of a unit is below a microgram and every net up to m fits, whatever the step, also a coarse one of ten times
+-- as much; with fewer than 6 of them the unit is so light that 2 x 10^8 of it stay within a word
 pub record Sure (u : WeightUnit) (m n : ℕ) : Type 0 where
   pub few : n ≤ 6
   pub least : 1000 * 10 ^ n ≤ nanogramsOf u
-  pub fits : 2 * (m * (1000 * 10 ^ n)) + 5 * nanogramsOf u < nanogramsOf u * 200_000_000
+  pub fits : 2 * (m * (1000 * 10 ^ n)) + 50 * nanogramsOf u < nanogramsOf u * 200_000_000
   pub light : n < 6 → nanogramsOf u ≤ 1_555_173_840
 
 pub sure-of : (near : Bool) (u : WeightUnit) → Sure u (reachOf near) (sureDecimals near u)
@@ -73,21 +74,27 @@ module _ (r : Resolution) (m : ℕ) (near : Bool) (few : r .decimals ≤ sureDec
       sym (few-decimals r up-to-six)
       ∙ rw (e, le-leb (1000 * 10 ^ (r .decimals)) (r .step * nanogramsOf (r .unit)) (omega (arith, scale-least, sure .least)))
 
-  below : scaled r m + scaled r m + displayStep r < nanogramsOf (r .unit) * 200_000_000
-  below =
+  below-coarse : scaled r m + scaled r m + 10 * displayStep r < nanogramsOf (r .unit) * 200_000_000
+  below-coarse =
       let scaledMost : scaled r m ≤ reachOf near * (1000 * 10 ^ sureDecimals near (r .unit)) = mul-le-mul small scale-least in
       let stepMost : displayStep r ≤ 5 * nanogramsOf (r .unit) = mul-le-mul-right (nanogramsOf (r .unit)) limited in
       omega (arith, sure .fits)
 
+  below : scaled r m + scaled r m + displayStep r < nanogramsOf (r .unit) * 200_000_000
+  below = omega (arith, below-coarse)
+
   pub sure-fits : m < 2 ^ 32 → true ≡ fitsBelowZero r m
   sure-fits word = sym (lt-ltb _ _ below) ∙ below-zero-test r m sure-allowed word
+
+  pub sure-coarse : 2 ≤ r .decimals → true ≡ fitsCoarse r m
+  sure-coarse two = sym (lt-ltb _ _ below-coarse) ∙ coarse-test r m two sure-allowed
 
 -- a size below the largest reach is a word's
 pub in-word : (m : ℕ) → m ≤ largestReach → m < 2 ^ 32
 in-word m small = lt-of-le-of-lt small (lit< tt)
 
 -- an unknown step is not allowed
-unknown-step : (r : Resolution) → isKnownStep (r .step) ≡ false → allowedResolution r ≡ false
+pub unknown-step : (r : Resolution) → isKnownStep (r .step) ≡ false → allowedResolution r ≡ false
 unfolding allowedResolution
 unknown-step r e = rw (e, and-false (leb (r .decimals) 6))
 

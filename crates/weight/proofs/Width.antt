@@ -11,7 +11,7 @@ use lib.Pow.{pow-add}
 use lib.Signed.{nonNeg}
 use lib.ListN.{length, length-append}
 use borrow.Author.Tests.{lt-ltb, le-ltb, le-leb, ltb-true, ltb-false, leb-true, leb-false}
-use Rattle.weight.specs.Places.{digitsOf, decimalOf, numberText, widthOf, fitsField}
+use Rattle.weight.specs.Places.{digitsOf, decimalOf, numberText, widthOf, charactersIn, decimalsFit, fitsField}
 use Rattle.weight.proofs.Digits.{length-digits-small, length-digits-step, length-last-digits}
 
 -- two tests agree if each follows from the other
@@ -101,20 +101,26 @@ point-small d = go (ltb d 1)
     go true = omega arith
     go false = omega arith
 
-number-limit : (d : ℕ) (n : ℤ) → d ≤ 6 → leb (widthOf d n) 10 ≡ ltb (natAbs n) (10 ^ (10 - pointWidth d - minusWidth n))
-unfolding widthOf numberText
-number-limit d (pos m) h = rw (sub-zero) (decimal-limit d m 10 (omega (arith, point-small d)))
-number-limit d (negsuc m) h =
-    let less : 10 - pointWidth d - 1 ≡ 9 - pointWidth d = omega (arith, point-small d) in
-    rw (leb·suc-suc (length (decimalOf d (suc m))) 9, less) (decimal-limit d (suc m) 9 (omega (arith, point-small d)))
+-- up to 6 decimals a number of one digit has room in ten characters, and up to 5 in nine
+decimals-few : (c : Bool) (d : ℕ) → decimalsFit c d ≡ true → suc (suc (suc d)) ≤ charactersIn c
+decimals-few true d h = omega (arith, leb-true d 5 (and-eq-true-iff (leb 1 d) (leb d 5) .0 h .1))
+decimals-few false d h = omega (arith, leb-true d 6 h)
 
--- a number fits exactly when its size is below a power of ten: what ten characters leave beside the point and the minus
-pub fits-limit : (d : ℕ) (n : ℤ) → fitsField d n ≡ leb d 6 && ltb (natAbs n) (10 ^ (10 - pointWidth d - minusWidth n))
+number-limit : (d w : ℕ) (n : ℤ) → suc (suc (suc d)) ≤ w → leb (widthOf d n) w ≡ ltb (natAbs n) (10 ^ (w - pointWidth d - minusWidth n))
+unfolding widthOf numberText
+number-limit d w (pos m) h = rw (sub-zero) (decimal-limit d m w (omega (arith, point-small d)))
+number-limit d (suc w) (negsuc m) h =
+    let less : suc w - pointWidth d - 1 ≡ w - pointWidth d = omega (arith, point-small d) in
+    rw (leb·suc-suc (length (decimalOf d (suc m))) w, less) (decimal-limit d (suc m) w (omega (arith, point-small d)))
+
+-- a number fits exactly when its size is below a power of ten: what the characters leave beside the point and the minus
+pub fits-limit : (c : Bool) (d : ℕ) (n : ℤ) → fitsField c d n ≡ decimalsFit c d && ltb (natAbs n) (10 ^ (charactersIn c - pointWidth d - minusWidth n))
 unfolding fitsField
-fits-limit d n = go (leb d 6) refl
+fits-limit c d n = go (decimalsFit c d) refl
   where
-    go : (t : Bool) → leb d 6 ≡ t → leb d 6 && leb (widthOf d n) 10 ≡ leb d 6 && ltb (natAbs n) (10 ^ (10 - pointWidth d - minusWidth n))
-    go true e = rw (number-limit d n (leb-true d 6 e))
+    go : (t : Bool) → decimalsFit c d ≡ t
+        → decimalsFit c d && leb (widthOf d n) (charactersIn c) ≡ decimalsFit c d && ltb (natAbs n) (10 ^ (charactersIn c - pointWidth d - minusWidth n))
+    go true e = rw (number-limit d (charactersIn c) n (decimals-few c d e))
     go false e = rw e
 
 -- the characters of a number: its minus and its size
@@ -123,36 +129,43 @@ unfolding widthOf numberText
 width-parts d (pos m) = omega arith
 width-parts d (negsuc m) = omega arith
 
--- what fits is not over ten characters
-pub fits-width : (d : ℕ) (n : ℤ) → fitsField d n ≡ true → widthOf d n ≤ 10
+-- what fits is not over the characters of its range, nor over ten
+pub fits-width : (c : Bool) (d : ℕ) (n : ℤ) → fitsField c d n ≡ true → widthOf d n ≤ charactersIn c
 unfolding fitsField
-fits-width d n h = leb-true (widthOf d n) 10 (and-eq-true-iff (leb d 6) (leb (widthOf d n) 10) .0 h .1)
+fits-width c d n h = leb-true (widthOf d n) (charactersIn c) (and-eq-true-iff (decimalsFit c d) (leb (widthOf d n) (charactersIn c)) .0 h .1)
+
+pub fits-decimals : (c : Bool) (d : ℕ) (n : ℤ) → fitsField c d n ≡ true → decimalsFit c d ≡ true
+unfolding fitsField
+fits-decimals c d n h = and-eq-true-iff (decimalsFit c d) (leb (widthOf d n) (charactersIn c)) .0 h .0
 
 -- the same as two facts: the decimals and the size
-pub fits-facts : (d : ℕ) (n : ℤ) → fitsField d n ≡ true → (d ≤ 6) × (natAbs n < 10 ^ (10 - pointWidth d - minusWidth n))
-fits-facts d n h = go (and-eq-true-iff (leb d 6) (ltb (natAbs n) (10 ^ (10 - pointWidth d - minusWidth n))) .0 (sym (fits-limit d n) ∙ h))
+pub fits-facts : (c : Bool) (d : ℕ) (n : ℤ) → fitsField c d n ≡ true
+    → (decimalsFit c d ≡ true) × (natAbs n < 10 ^ (charactersIn c - pointWidth d - minusWidth n))
+fits-facts c d n h =
+    go (and-eq-true-iff (decimalsFit c d) (ltb (natAbs n) (10 ^ (charactersIn c - pointWidth d - minusWidth n))) .0 (sym (fits-limit c d n) ∙ h))
   where
-    go : (leb d 6 ≡ true) × (ltb (natAbs n) (10 ^ (10 - pointWidth d - minusWidth n)) ≡ true) → (d ≤ 6) × (natAbs n < 10 ^ (10 - pointWidth d - minusWidth n))
-    go k = (leb-true d 6 (k .0), ltb-true (natAbs n) (10 ^ (10 - pointWidth d - minusWidth n)) (k .1))
+    go : (decimalsFit c d ≡ true) × (ltb (natAbs n) (10 ^ (charactersIn c - pointWidth d - minusWidth n)) ≡ true)
+        → (decimalsFit c d ≡ true) × (natAbs n < 10 ^ (charactersIn c - pointWidth d - minusWidth n))
+    go k = (k .0, ltb-true (natAbs n) (10 ^ (charactersIn c - pointWidth d - minusWidth n)) (k .1))
 
-pub facts-fit : (d : ℕ) (n : ℤ) → d ≤ 6 → natAbs n < 10 ^ (10 - pointWidth d - minusWidth n) → fitsField d n ≡ true
-facts-fit d n h l = rw (fits-limit d n, le-leb d 6 h) (lt-ltb (natAbs n) (10 ^ (10 - pointWidth d - minusWidth n)) l)
+pub facts-fit : (c : Bool) (d : ℕ) (n : ℤ) → decimalsFit c d ≡ true → natAbs n < 10 ^ (charactersIn c - pointWidth d - minusWidth n) → fitsField c d n ≡ true
+facts-fit c d n h l = rw (fits-limit c d n, h) (lt-ltb (natAbs n) (10 ^ (charactersIn c - pointWidth d - minusWidth n)) l)
 
 -- what is not larger, and has a minus only beside a minus, fits too
-fits-narrower : (d : ℕ) (m n : ℤ) → fitsField d n ≡ true → natAbs m ≤ natAbs n → minusWidth m ≤ minusWidth n → fitsField d m ≡ true
-fits-narrower d m n f h s =
-    let room : 10 ^ (10 - pointWidth d - minusWidth n) ≤ 10 ^ (10 - pointWidth d - minusWidth m) = pow-le-pow-right (omega arith) (omega arith) in
-    facts-fit d m (fits-facts d n f .0) (omega (arith, fits-facts d n f .1))
+fits-narrower : (c : Bool) (d : ℕ) (m n : ℤ) → fitsField c d n ≡ true → natAbs m ≤ natAbs n → minusWidth m ≤ minusWidth n → fitsField c d m ≡ true
+fits-narrower c d m n f h s =
+    let room : 10 ^ (charactersIn c - pointWidth d - minusWidth n) ≤ 10 ^ (charactersIn c - pointWidth d - minusWidth m) = pow-le-pow-right (omega arith) (omega arith) in
+    facts-fit c d m (fits-facts c d n f .0) (omega (arith, fits-facts c d n f .1))
 
 minus-small : (n : ℤ) → minusWidth n ≤ 1
 minus-small (pos m) = omega arith
 minus-small (negsuc m) = omega arith
 
 -- the two ends: what lies between zero and a number that fits
-pub fits-below : (d m k : ℕ) → fitsField d (pos k) ≡ true → m ≤ k → fitsField d (pos m) ≡ true
-fits-below d m k f h = fits-narrower d (pos m) (pos k) f h (omega arith)
+pub fits-below : (c : Bool) (d m k : ℕ) → fitsField c d (pos k) ≡ true → m ≤ k → fitsField c d (pos m) ≡ true
+fits-below c d m k f h = fits-narrower c d (pos m) (pos k) f h (omega arith)
 
-pub fits-above : (d : ℕ) (m : ℤ) (k : ℕ) → fitsField d (negℤ (pos k)) ≡ true → natAbs m ≤ k → fitsField d m ≡ true
-fits-above d (pos m) zero f h = fits-below d m 0 f h
-fits-above d (negsuc m) zero f h = absurd (omega arith)
-fits-above d m (suc k) f h = fits-narrower d m (negsuc k) f h (minus-small m)
+pub fits-above : (c : Bool) (d : ℕ) (m : ℤ) (k : ℕ) → fitsField c d (negℤ (pos k)) ≡ true → natAbs m ≤ k → fitsField c d m ≡ true
+fits-above c d (pos m) zero f h = fits-below c d m 0 f h
+fits-above c d (negsuc m) zero f h = absurd (omega arith)
+fits-above c d m (suc k) f h = fits-narrower c d m (negsuc k) f h (minus-small m)

@@ -4,5 +4,6 @@ pub mod Characters
 pub mod Places
 pub mod Presets
 pub mod Printing
+pub mod Ranges
 pub mod Rounding
 pub mod Units

@@ -1,6 +1,6 @@
 -- Document 01, "Weights", how the printed number is written: d decimals, one zero before the point if nothing else stands
 -- there, no other leading zeros, no point when d = 0, a minus directly before the first digit only if the number is below
--- zero; and whether it fits ten characters.
+-- zero; and whether it fits ten characters, in the coarse range (document 02, No. 7) nine.
 -- Assumes nothing.
 use Prim.Native.Nat.{ℕ, zero, suc, _/_, _%_, _^_}
 use mathlib.Core.Bool.{Bool, true, false, cond, _&&_}
@@ -36,9 +36,16 @@ numberText d (negsuc m) = minus ∷ decimalOf d (suc m)
 unfoldable pub widthOf : ℕ → ℤ → ℕ
 widthOf d n = length (numberText d n)
 
--- 0 to 6 decimals, and not over ten characters
-unfoldable pub fitsField : ℕ → ℤ → Bool
-fitsField d n = leb d 6 && leb (widthOf d n) 10
+-- ten characters; in the coarse range the last of them is a space
+abbrev pub charactersIn : Bool → ℕ
+charactersIn coarse = cond coarse 9 10
+
+-- 0 to 6 decimals; in the coarse range, which has one fewer than the two or more of a profile, 1 to 5
+abbrev pub decimalsFit : Bool → ℕ → Bool
+decimalsFit coarse d = cond coarse (leb 1 d && leb d 5) (leb d 6)
+
+unfoldable pub fitsField : Bool → ℕ → ℤ → Bool
+fitsField coarse d n = decimalsFit coarse d && leb (widthOf d n) (charactersIn coarse)
 
 -- ---- a number from its sign and its size
 

@@ -11,9 +11,9 @@ use Rattle.weight.specs.declared.units.WeightUnit.the-variants.{G, Mg, C
 use Rattle.weight.specs.Rounding.{allowedResolution, inRange, placesOf}
 use Rattle.weight.specs.Places.{fitsField}
 
--- the resolution is allowed, the net is one that a device can meet, and its number fits ten characters
+-- the resolution is allowed, the net is one that a device can meet, and its number fits the characters of its range
 unfoldable pub printable : Resolution → ℤ → Bool
-printable r net = allowedResolution r && inRange net && fitsField (r .decimals) (placesOf r net)
+printable r net = allowedResolution r && inRange net && fitsField (r .coarse) (r .decimals) (placesOf r net)
 
 -- the number of last places; 0 beside `false` where there is none
 unfoldable pub printedNumber : Resolution → ℤ → Printed
@@ -22,7 +22,7 @@ printedNumber r net =
 
 -- the resolution is allowed, and the number of a net of m micrograms below zero fits ten characters
 abbrev pub fitsBelowZero : Resolution → ℕ → Bool
-fitsBelowZero r m = allowedResolution r && fitsField (r .decimals) (placesOf r (negℤ (pos m)))
+fitsBelowZero r m = allowedResolution r && fitsField false (r .decimals) (placesOf r (negℤ (pos m)))
 
 -- the most that U and C of a profile give together, in micrograms
 abbrev pub largestReach : ℕ

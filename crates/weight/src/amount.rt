@@ -21,7 +21,7 @@ pub enum Typed {
 const LARGEST_CAPACITY: u64 = 1_000_000_000;
 
 // (2^63 - 1) / nanograms: no number up to it makes a product that leaves a signed word, and all above it are too large.
-fn most_places(unit: WeightUnit) -> u64
+pub fn most_places(unit: WeightUnit) -> u64
     ensures { λ r. ⌜ MostPlaces unit r ⌝ }
 {
     match unit {

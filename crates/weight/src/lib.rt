@@ -8,6 +8,7 @@ mod loads;
 mod places;
 mod preset;
 mod printing;
+mod ranges;
 mod rounding;
 mod units;
 
@@ -41,6 +42,9 @@ pub use printing::Printed;
 pub use printing::fits_below_zero;
 pub use printing::fits_surely;
 pub use printing::printed_number;
+pub use ranges::fits_coarse;
+pub use ranges::resolution_at;
+pub use ranges::typed_resolution;
 pub use rounding::DisplaySteps;
 pub use rounding::LastPlaces;
 pub use rounding::Micrograms;

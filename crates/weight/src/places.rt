@@ -1,6 +1,6 @@
-// Whether a number fits the ten characters of a weight.
+// Whether a number fits the characters of a weight.
 ghost use mathlib.Core.Path.{_≡_};
-ghost use mathlib.Core.Bool.{cond, not};
+ghost use mathlib.Core.Bool.{true, false, cond, not};
 ghost use Prim.Native.Nat.{_-_, _^_};
 ghost use lib.Dec.{ltb};
 ghost use lib.IntN.{natAbs};
@@ -57,11 +57,44 @@ fn size_limit(decimals: u8, negative: bool) -> u64
 }
 
 // Whether a number has 0 to 6 decimals and is written in ten characters.
-pub fn fits(decimals: u8, places: LastPlaces) -> bool
-    ensures { λ r. ⌜ r ≡ fitsField decimals (places .0) ⌝ }
+fn fits_ten(decimals: u8, places: LastPlaces) -> bool
+    ensures { λ r. ⌜ r ≡ fitsField false decimals (places .0) ⌝ }
 {
     if 6 < decimals {
         return false;
     }
     size_of_number(places) < size_limit(decimals, is_below_zero(places))
+}
+
+// The same of nine, which have a point.
+fn nine_limit(negative: bool) -> u64
+    ensures { λ r. ⌜ r ≡ 10 ^ (8 - cond negative 1 0) ⌝ }
+{
+    if negative {
+        return 10_000_000;
+    }
+    100_000_000
+}
+
+// Whether a number has 1 to 5 decimals and is written in nine characters.
+fn fits_nine(decimals: u8, places: LastPlaces) -> bool
+    ensures { λ r. ⌜ r ≡ fitsField true decimals (places .0) ⌝ }
+{
+    if decimals < 1 {
+        return false;
+    }
+    if 5 < decimals {
+        return false;
+    }
+    size_of_number(places) < nine_limit(is_below_zero(places))
+}
+
+// Whether a number is written in the characters of its range.
+pub fn fits(decimals: u8, places: LastPlaces, coarse: bool) -> bool
+    ensures { λ r. ⌜ r ≡ fitsField coarse decimals (places .0) ⌝ }
+{
+    if coarse {
+        return fits_nine(decimals, places);
+    }
+    fits_ten(decimals, places)
 }

@@ -30,14 +30,14 @@ pub struct Printed {
 pub const NET_LIMIT: u64 = 5_000_000_000;
 
 // Twice 10^8: beside a minus and a point ten characters hold eight digits.
-const TWICE_PLACES_LIMIT: u64 = 200_000_000;
+pub const TWICE_PLACES_LIMIT: u64 = 200_000_000;
 
 pub fn printed_number(resolution: Resolution, net: Micrograms) -> Printed
     ensures { λ r. ⌜ r ≡ printedNumber resolution (net .0) ⌝ }
 {
     if is_allowed(resolution) & (size_of(net) <= NET_LIMIT) {
         let places = places_of(resolution, steps_of(resolution, net));
-        if fits(resolution.decimals, places) {
+        if fits(resolution.decimals, places, resolution.coarse) {
             return Printed { fits: true, places };
         }
     }
@@ -65,7 +65,7 @@ fn fits_closely(resolution: Resolution, size: u32) -> bool
 }
 
 // The most that U and C of a profile give together.
-const LARGEST_REACH: u32 = 2_000_000_000;
+pub const LARGEST_REACH: u32 = 2_000_000_000;
 
 // A reach up to which every unit can have one decimal more: 600 g.
 const NEAR_REACH: u32 = 600_000_000;
@@ -86,7 +86,7 @@ fn near_decimals(unit: WeightUnit) -> u8
     }
 }
 
-fn far_decimals(unit: WeightUnit) -> u8
+pub fn far_decimals(unit: WeightUnit) -> u8
     ensures { λ r. ⌜ r ≡ sureDecimals false unit ⌝ }
 {
     match unit {

@@ -18,11 +18,13 @@ use crate::integer::times;
 use crate::units::WeightUnit;
 use crate::units::nanograms_of;
 
-// How weights are shown: the unit, the decimals and the step in the last place (document 01's d and k).
+// How weights are shown: the unit, the decimals and the step in the last place (document 01's d and k), and whether that is the coarse
+// range's (document 02, No. 7).
 pub struct Resolution {
     pub unit: WeightUnit,
     pub decimals: u8,
     pub step: u8,
+    pub coarse: bool,
 }
 
 pub struct Micrograms(pub i64);

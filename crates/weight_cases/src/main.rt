@@ -3,7 +3,9 @@
 mod fields;
 mod nets;
 mod preset;
+mod ranges;
 mod show;
+mod tares;
 mod texts;
 mod ties;
 mod typed;
@@ -17,6 +19,10 @@ fn main() {
     nets::range_cases();
     nets::width_cases();
     nets::resolution_cases();
+    ranges::coarse_cases();
+    ranges::width_cases();
+    ranges::in_force_cases();
+    ranges::fit_cases();
     ties::cases();
     typed::bench_cases();
     typed::form_cases();
@@ -26,7 +32,13 @@ fn main() {
     preset::request_cases();
     preset::first_tie_cases();
     preset::second_tie_cases();
+    tares::request_cases();
+    tares::unit_cases();
+    tares::large_cases();
     fields::written_cases();
     fields::read_cases();
     fields::other_cases();
+    fields::coarse_written_cases();
+    fields::coarse_read_cases();
+    fields::coarse_other_cases();
 }

@@ -4,11 +4,21 @@ use weight::Micrograms;
 use weight::Resolution;
 use weight::WeightUnit;
 
-fn printed(r: Resolution, net: i64) {
+// Of the fine range.
+pub fn fine(unit: WeightUnit, decimals: u8, step: u8) -> Resolution {
+    Resolution {
+        unit,
+        decimals,
+        step,
+        coarse: false,
+    }
+}
+
+pub fn printed(r: Resolution, net: i64) {
     let p = weight::printed_number(r, Micrograms(net));
     let places = p.places;
     if p.fits {
-        show::field(text::field_of(r.decimals, places));
+        show::field(text::field_of(r.decimals, places, r.coarse));
     } else {
         show::text(b" no");
     }
@@ -27,17 +37,16 @@ fn net(r: Resolution, size: u64) {
     show::end();
 }
 
-fn nets(unit: WeightUnit, decimals: u8, step: u8, sizes: &[u64]) {
-    let r = Resolution {
-        unit,
-        decimals,
-        step,
-    };
+pub fn each(r: Resolution, sizes: &[u64]) {
     let mut i = 0;
     while i < sizes.len() {
         net(r, sizes[i]);
         i += 1;
     }
+}
+
+fn nets(unit: WeightUnit, decimals: u8, step: u8, sizes: &[u64]) {
+    each(fine(unit, decimals, step), sizes);
 }
 
 fn grams(decimals: u8, sizes: &[u64]) {
@@ -100,14 +109,13 @@ pub fn range_cases() {
 }
 
 // The last size whose field fits, above zero or below, and the first that does not.
-fn edge(unit: WeightUnit, decimals: u8, step: u8, last: u64) {
-    let r = Resolution {
-        unit,
-        decimals,
-        step,
-    };
+pub fn last_and_next(r: Resolution, last: u64) {
     net(r, last);
     net(r, show::one_more(last));
+}
+
+fn edge(unit: WeightUnit, decimals: u8, step: u8, last: u64) {
+    last_and_next(fine(unit, decimals, step), last);
 }
 
 // No net is too wide for kg and lb.

@@ -1,4 +1,5 @@
-// Typed tares, in micrograms: a resolution and what a text is stored as.
+// Typed tares, in micrograms: a resolution and what a text is stored as, where the fine range has no end.
+use crate::nets;
 use crate::show;
 use crate::texts;
 use crate::texts::Kind;
@@ -6,20 +7,19 @@ use crate::typed;
 use weight::Resolution;
 use weight::WeightUnit;
 
+// C and F of such a profile.
+const LARGEST_CAPACITY: u32 = 1_000_000_000;
+
 pub fn preset(r: Resolution, text: &[u8]) {
     show::text(b"preset");
     show::resolution(r);
     show::quoted(text);
-    typed::found(text::read_preset(r, text));
+    typed::found(text::read_preset(LARGEST_CAPACITY, LARGEST_CAPACITY, r, text));
+    show::end();
 }
 
 fn each(unit: WeightUnit, decimals: u8, step: u8, list: &[u8]) {
-    let r = Resolution {
-        unit,
-        decimals,
-        step,
-    };
-    texts::each(Kind::Preset(r), list);
+    texts::each(Kind::Preset(nets::fine(unit, decimals, step)), list);
 }
 
 // Document 01, "Bench cases".

@@ -40,7 +40,14 @@ pub fn field(f: Field) {
 
 // A number of at most ten characters, as a field with no decimals.
 pub fn whole(n: i64) {
-    field(text::field_of(0, LastPlaces(n)));
+    field(text::field_of(0, LastPlaces(n), false));
+}
+
+// The range: a word for the coarse one alone.
+pub fn range(coarse: bool) {
+    if coarse {
+        text(b" coarse");
+    }
 }
 
 pub fn resolution(r: Resolution) {
@@ -48,6 +55,7 @@ pub fn resolution(r: Resolution) {
     unit(u);
     number(r.decimals as u64);
     number(r.step as u64);
+    range(r.coarse);
     if weight::is_allowed(r) {
         text(b" allowed");
     } else {

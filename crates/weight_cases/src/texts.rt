@@ -1,6 +1,8 @@
 // Lists of texts for the functions that read.
 use crate::fields;
 use crate::preset;
+use crate::tares;
+use crate::tares::Limits;
 use crate::typed;
 use crate::units;
 use weight::Resolution;
@@ -11,6 +13,7 @@ pub enum Kind {
     Unit,
     Typed(WeightUnit),
     Preset(Resolution),
+    Tare(Limits, Resolution),
     Field,
 }
 
@@ -19,6 +22,7 @@ fn one(kind: Kind, text: &[u8]) {
         Kind::Unit => units::named(text),
         Kind::Typed(unit) => typed::typed(unit, text),
         Kind::Preset(r) => preset::preset(r, text),
+        Kind::Tare(limits, r) => tares::tare(limits, r, text),
         Kind::Field => fields::read(text),
     }
 }

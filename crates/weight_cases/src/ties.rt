@@ -36,11 +36,7 @@ fn middles(unit: WeightUnit, decimals: u8, step: u8, per: u64) {
     if per < 1 {
         return;
     }
-    let r = Resolution {
-        unit,
-        decimals,
-        step,
-    };
+    let r = nets::fine(unit, decimals, step);
     let n = step_nanograms(unit, step);
     around(r, n / per);
     around(r, n * 25 / per);

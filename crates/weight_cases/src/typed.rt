@@ -5,14 +5,13 @@ use crate::texts::Kind;
 use weight::Typed;
 use weight::WeightUnit;
 
-// What a text was read as, and the line's end.
+// What a text was read as.
 pub fn found(read: Typed) {
     match read {
         Typed::Amount(m) => show::whole(m.0 as i64),
         Typed::TooLarge => show::text(b" too large"),
         Typed::NotTyped => show::text(b" no"),
     }
-    show::end();
 }
 
 pub fn typed(unit: WeightUnit, text: &[u8]) {
@@ -20,6 +19,7 @@ pub fn typed(unit: WeightUnit, text: &[u8]) {
     show::unit(unit);
     show::quoted(text);
     found(text::read_typed(unit, text));
+    show::end();
 }
 
 fn each(unit: WeightUnit, list: &[u8]) {

@@ -8,8 +8,8 @@ with-tare-requires c κs = search needs
 with-weighing-requires : tie.Need-with-weighing-requires
 with-weighing-requires c κs = search needs
 
-resolution-in-requires : tie.Need-resolution-in-requires
-resolution-in-requires c κs = search needs
+scale-of-requires : tie.Need-scale-of-requires
+scale-of-requires c κs = search needs
 
 tare-answer-requires : tie.Need-tare-answer-requires
 tare-answer-requires c κs = search needs
@@ -21,7 +21,7 @@ returns : tie.Need-returns
 returns c =
     let told = c .before in
     let moved = told .before .before in
-    rw (c .answered .ensures, told .tare-answer .ensures, told .before .resolution-in .ensures, moved .with-weighing .ensures, moved .before .with-tare .ensures)
+    rw (c .answered .ensures, told .tare-answer .ensures, told .before .scale-of .ensures, moved .with-weighing .ensures, moved .before .with-tare .ensures)
 
 pub preset-spec : {M : Type 1} → statement M
 preset-spec =
@@ -29,7 +29,7 @@ preset-spec =
     (tie.spec
     with-tare-requires
     with-weighing-requires
-    resolution-in-requires
+    scale-of-requires
     tare-answer-requires
     answered-requires
     returns)

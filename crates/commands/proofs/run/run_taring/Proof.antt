@@ -39,8 +39,8 @@ answered-requires c κs = search needs
 returns-3 : tie.Need-returns-3
 returns-3 c = search (needs, taring-cleared)
 
-resolution-in-requires : tie.Need-resolution-in-requires
-resolution-in-requires c κs = search needs
+scale-of-requires-3 : tie.Need-scale-of-requires-3
+scale-of-requires-3 c κs = search needs
 
 tare-answer-requires : tie.Need-tare-answer-requires
 tare-answer-requires c κs = search needs
@@ -73,7 +73,7 @@ run-taring-spec =
     plain-requires
     answered-requires
     returns-3
-    resolution-in-requires
+    scale-of-requires-3
     tare-answer-requires
     answered-requires-2
     returns-4

@@ -1,7 +1,7 @@
 -- `script::order::named_order` meets its contract.
 -- Assumes nothing.
 use borrow.Author.Needs.{needs}
-use Rattle.script.proofs.Ordering.{call-line, no-line, profile-line, room-line, text-line, unit-line}
+use Rattle.script.proofs.Ordering.{call-line, fine-line, no-line, profile-line, room-line, text-line, unit-line}
 use Rattle.script.proofs.order.named_order.Statement.{statement}
 use Rattle.script.proofs.order.named_order.Tie as tie
 
@@ -59,14 +59,26 @@ room-order-requires c κs = search needs
 returns-4 : tie.Need-returns-4
 returns-4 c = search (needs, room-line)
 
+slice-aggregate-same-text-5 : tie.Need-slice-aggregate-same-text-5
+slice-aggregate-same-text-5 c = search needs
+
+same-text-requires-5 : tie.Need-same-text-requires-5
+same-text-requires-5 c κs = search needs
+
+fine-order-requires : tie.Need-fine-order-requires
+fine-order-requires c κs = search needs
+
+returns-5 : tie.Need-returns-5
+returns-5 c = search (needs, fine-line)
+
 call-order-requires : tie.Need-call-order-requires
 call-order-requires c κs = search needs
 
-returns-5 : tie.Need-returns-5
-returns-5 c = search (needs, call-line)
-
 returns-6 : tie.Need-returns-6
-returns-6 c = search (needs, no-line)
+returns-6 c = search (needs, call-line)
+
+returns-7 : tie.Need-returns-7
+returns-7 c = search (needs, no-line)
 
 pub named-order-spec : {M : Type 1} → statement M
 named-order-spec =
@@ -90,6 +102,10 @@ named-order-spec =
     same-text-requires-4
     room-order-requires
     returns-4
-    call-order-requires
+    slice-aggregate-same-text-5
+    same-text-requires-5
+    fine-order-requires
     returns-5
-    returns-6)
+    call-order-requires
+    returns-6
+    returns-7)

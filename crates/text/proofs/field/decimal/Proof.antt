@@ -8,7 +8,7 @@ use native.Mathlib.Omega.{arith}
 use lib.ListN.{length, take, drop}
 use borrow.Author.Needs.{needs}
 use Rattle.weight.specs.Places.{digitsOf}
-use Rattle.text.proofs.Ending.{whole-laid, whole-room, whole-long, whole-done, parts-done}
+use Rattle.text.proofs.Ending.{parts-room, whole-laid, whole-room, whole-long, whole-done, parts-done}
 use Rattle.text.proofs.field.decimal.Statement.{statement}
 use Rattle.text.proofs.field.decimal.Tie as tie
 
@@ -40,7 +40,7 @@ put-decimals-requires c κs =
     let begun = laid .before .before .before .before .nine-digits .ensures in (
       omega (arith, begun .some, begun .few),
       (
-        omega (arith, begun .some, begun .few, long-at laid, start .pre .0),
+        omega (arith, parts-room (start .args .out .now) (start .args .decimals) (start .args .size) (laid .before .before .before .before .nine-digits .result .start) (search needs) (begun .start), long-at laid),
         rw (laid .put-digits .ensures .0) (mod-lt _ (one-le-pow (start .args .decimals) 10 (omega arith))),
       ),
     )

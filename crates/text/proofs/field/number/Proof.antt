@@ -1,7 +1,7 @@
 -- `number` meets its contract: the size is written, and a minus before it exactly if the number is below zero.
 -- Assumes nothing.
 use borrow.Author.Needs.{needs}
-use Rattle.text.proofs.Ending.{size-room, minus-room, plain-done, minus-done}
+use Rattle.text.proofs.Ending.{size-room, minus-room, minus-in, plain-done, minus-done}
 use Rattle.text.proofs.field.number.Statement.{statement}
 use Rattle.text.proofs.field.number.Tie as tie
 
@@ -11,7 +11,7 @@ size-of-number-requires c κs = search needs
 decimal-requires : tie.Need-decimal-requires
 decimal-requires c κs =
     let start = c .before .before .before in
-    (start .pre .0, rw (start .pre .0) at (size-room _ _ _ (start .args .places .0) (c .before .size-of-number .ensures) (start .pre .1)))
+    (start .pre .0, size-room _ _ _ (start .args .places .0) (c .before .size-of-number .ensures) (start .pre .1))
 
 is-below-zero-requires : tie.Need-is-below-zero-requires
 is-below-zero-requires c κs = search needs
@@ -20,7 +20,7 @@ sub-out : tie.Need-sub-out
 sub-out c = search (needs, minus-room)
 
 slice-write-out : tie.Need-slice-write-out
-slice-write-out c = search needs
+slice-write-out c = search (needs, minus-in)
 
 same-length : tie.Need-same-length
 same-length c = search needs

@@ -6,6 +6,9 @@ use Rattle.weighing.proofs.weighing.tare_answer.Tie as tie
 from-tare-requires : tie.Need-from-tare-requires
 from-tare-requires c κs = search needs
 
+resolution-by-requires : tie.Need-resolution-by-requires
+resolution-by-requires c κs = search needs
+
 number-of-requires : tie.Need-number-of-requires
 number-of-requires c κs = search needs
 
@@ -16,4 +19,4 @@ returns : tie.Need-returns
 returns c = search (needs, tare-told)
 
 pub tare-answer-spec : {M : Type 1} → statement M
-tare-answer-spec = tie.close (tie.spec from-tare-requires number-of-requires weight-answer-requires returns)
+tare-answer-spec = tie.close (tie.spec from-tare-requires resolution-by-requires number-of-requires weight-answer-requires returns)

@@ -30,6 +30,9 @@ unchanged-requires-2 c κs = search needs
 returns-2 : tie.Need-returns-2
 returns-2 c = search (needs, tared-under)
 
+resolution-by-requires : tie.Need-resolution-by-requires
+resolution-by-requires c κs = search needs
+
 stability-requires : tie.Need-stability-requires
 stability-requires c κs = search needs
 
@@ -61,6 +64,7 @@ tared-by-spec =
     plain-requires-2
     unchanged-requires-2
     returns-2
+    resolution-by-requires
     stability-requires
     number-of-requires
     weight-answer-requires

@@ -24,14 +24,17 @@ plain-requires-2 c κs = search needs
 returns-2 : tie.Need-returns-2
 returns-2 c = search (needs, weighed-under)
 
-stability-requires : tie.Need-stability-requires
-stability-requires c κs = search needs
-
 net-of-requires : tie.Need-net-of-requires
 net-of-requires c κs = search needs
 
+resolution-by-requires : tie.Need-resolution-by-requires
+resolution-by-requires c κs = search needs
+
 number-of-requires : tie.Need-number-of-requires
 number-of-requires c κs = search needs
+
+stability-requires : tie.Need-stability-requires
+stability-requires c κs = search needs
 
 weight-answer-requires : tie.Need-weight-answer-requires
 weight-answer-requires c κs = search needs
@@ -50,8 +53,9 @@ weighed-by-spec =
     is-under-requires
     plain-requires-2
     returns-2
-    stability-requires
     net-of-requires
+    resolution-by-requires
     number-of-requires
+    stability-requires
     weight-answer-requires
     returns-3)

@@ -1,16 +1,16 @@
--- `weight_cases::nets::nets` is safe and ends.
+-- `weight_cases::nets::each` is safe and ends.
 -- Assumes nothing.
 use Prim.Native.Nat.{_≤_, _-_}
 use lib.ListN.{length}
 use borrow.Author.Needs.{needs}
-use Rattle.weight_cases.proofs.nets.nets.Statement.{statement}
-use Rattle.weight_cases.proofs.nets.nets.Tie as tie
+use Rattle.weight_cases.proofs.nets.each.Statement.{statement}
+use Rattle.weight_cases.proofs.nets.each.Tie as tie
 
 abbrev Inv-loop : tie.InvT-loop
-Inv-loop decimals step sizes r i₀ i = i ≤ length sizes
+Inv-loop r sizes i₀ i = i ≤ length sizes
 
 abbrev μ-loop : tie.MeasureT-loop
-μ-loop decimals step sizes r i₀ i = length sizes - i
+μ-loop r sizes i₀ i = length sizes - i
 
 loop-holds : tie.Need-loop-holds Inv-loop μ-loop
 loop-holds c = search needs
@@ -36,5 +36,5 @@ loop-again c = search needs
 returns : tie.Need-returns Inv-loop μ-loop
 returns c = search needs
 
-pub nets-spec : {M : Type 1} → statement M
-nets-spec = tie.close (tie.spec Inv-loop μ-loop loop-holds mul-net shared-slice-read-net net-requires add-i loop-less loop-again returns)
+pub each-spec : {M : Type 1} → statement M
+each-spec = tie.close (tie.spec Inv-loop μ-loop loop-holds mul-net shared-slice-read-net net-requires add-i loop-less loop-again returns)

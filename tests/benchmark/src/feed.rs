@@ -39,6 +39,10 @@ pub struct Received<'a> {
     pub marks: &'a [u8],
 }
 
+/// The kinds of a weight that is read, fine and coarse.
+pub const WEIGHT: u8 = 2;
+pub const COARSE_WEIGHT: u8 = 10;
+
 /// What the checksum takes of a line: kind, command, status and decimals; the unit's nanograms; the text's length; the value.
 #[derive(Clone, Copy, Debug, Default, PartialEq, Eq)]
 pub struct Digest {

@@ -69,7 +69,8 @@ impl Image {
 
     /// Document 02, No. 4: how often each kind of call divides. A line divides at its last byte.
     fn of_divisions() -> Image {
-        let mut image = Image { what: DIVISIONS, profiles: [profile_a(), vec![0; SIZE]].concat(), ..Image::default() };
+        let profiles = [profile_a(), vec![0; SIZE], profile_with_fine(FINE)].concat();
+        let mut image = Image { what: DIVISIONS, profiles, ..Image::default() };
         image.calls.power_on();
         image.divides(0);
         image.line("SI", 0); // no sample has come: S I
@@ -121,6 +122,15 @@ impl Image {
         image.divides(0);
         image.line("SI", 0);
         image.sample(14_256_050, true, 0);
+        image.calls.profile(2); // two ranges: as often in both
+        image.divides(0);
+        image.calls.power_on();
+        image.divides(0);
+        image.sample(COARSE_LOAD, true, 0);
+        for (line, times) in [("SI", 1), ("T", 1), ("TA", 1), ("TA 100.00 g", 3), ("TA 150.0005 g", 3), ("TAC", 0), ("SIR", 1)] {
+            image.line(line, times);
+        }
+        image.sample(COARSE_LOAD, true, 1);
         image
     }
 

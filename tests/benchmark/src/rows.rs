@@ -106,6 +106,13 @@ fn line(line: &'static str) -> Row {
     calls(&format!("line `{line}`, {} bytes", line.len() + 2), 1, body)
 }
 
+/// The same in the coarse range.
+fn coarse_line(line: &'static str) -> Row {
+    let body = script(|script| script.line(line.as_bytes()));
+    let input = move |count| Input::Calls(profile_with_fine(FINE), repeated_at(COARSE_LOAD, count, &body));
+    row(&format!("line `{line}`, {} bytes, coarse", line.len() + 2), 1, input)
+}
+
 fn reads(name: &str, all: Vec<Vec<u8>>) -> Row {
     row(name, all.len(), move |count| Input::Lines(lines(&all).repeat(count)))
 }
@@ -125,11 +132,15 @@ fn digits(name: &str, decimals: u8, places: i64) -> Row {
 }
 
 fn samples(name: &str, before: &'static [u8], fill: fn(&mut Script, usize)) -> Row {
+    samples_with(profile_a(), name, before, fill)
+}
+
+fn samples_with(profile: Vec<u8>, name: &str, before: &'static [u8], fill: fn(&mut Script, usize)) -> Row {
     row(name, 100, move |count| {
         let mut script = repeated(0, &Script::default());
         script.line(before);
         fill(&mut script, 100 * count);
-        Input::Calls(profile_a(), script)
+        Input::Calls(profile.clone(), script)
     })
 }
 
@@ -190,6 +201,7 @@ pub fn rows() -> Vec<Row> {
         inner_bytes("byte that ends no line, SR runs", profile_a(), SR_STARTED, Script::sr_started),
         line("S"),
         line("SI"),
+        coarse_line("SI"),
         line("T"),
         line("ZI"),
         line("TA"),
@@ -205,9 +217,11 @@ pub fn rows() -> Vec<Row> {
         line("Q"),
         samples("sample, idle", b"", Script::close_samples),
         samples("sample, repetition", b"SIR", Script::close_samples),
+        samples_with(profile_with_fine(FINE), "sample, repetition, coarse", b"SIR", Script::coarse_samples),
         samples("sample, SR runs and does not send it", b"SR", Script::close_samples),
         samples("sample, SR runs and sends it", b"SR", Script::changing_samples),
         reads("read: weight", weight_lines()),
+        reads("read: coarse weight", coarse_lines()),
         reads("read: status", status_lines()),
         reads("read: text", text_lines()),
         reads("read: line of I0", listed_lines()),

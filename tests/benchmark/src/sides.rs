@@ -3,10 +3,20 @@
 
 use crate::fast::command::{Command, Status};
 use crate::fast::{module, profile, reader, weight};
-use crate::feed::{buffers, calls, fields, lines, rewritten, Digest, Implementation, Outcome, Received, Taken};
+use crate::feed::{
+    buffers, calls, fields, lines, rewritten, Digest, Implementation, Outcome, Received, Taken, COARSE_WEIGHT, WEIGHT,
+};
 use independent::module::{Module, Sample};
 use independent::reader::Reader;
-use independent::weight::{number_text, Places};
+use independent::weight::{number_text, Places, Range};
+
+fn weight_kind(coarse: bool) -> u8 {
+    if coarse {
+        COARSE_WEIGHT
+    } else {
+        WEIGHT
+    }
+}
 
 pub struct Fast;
 
@@ -49,7 +59,7 @@ impl Implementation for Fast {
         match *answer {
             Answer::Plain(command, status) => head(1, command as u8, status as u8),
             Answer::Weight(command, status, number) => Digest {
-                head: [2, command as u8, status as u8, number.decimals],
+                head: [weight_kind(number.coarse), command as u8, status as u8, number.decimals],
                 unit: number.unit.nanograms(),
                 len: 0,
                 value: number.places,
@@ -71,8 +81,8 @@ impl Implementation for Fast {
 
     fn field(decimals: u8, places: i64) -> Option<[u8; 10]> {
         let mut field = [0; 10];
-        (decimals <= 6 && weight::fits(places, decimals)).then(|| {
-            weight::put_field(places, decimals, &mut field);
+        (decimals <= 6 && weight::fits(places, decimals, false)).then(|| {
+            weight::put_field(places, decimals, false, &mut field);
             field
         })
     }
@@ -110,6 +120,7 @@ impl Implementation for Independent {
             margin: from.underload,
             zeroing: from.zeroing,
             patience: from.timeout,
+            fine: from.fine,
             places: from.resolutions.map(|of| Places { decimals: of.decimals, step: of.step }),
             texts: [
                 text(&from.model.bytes, from.model.len),
@@ -150,8 +161,8 @@ impl Implementation for Independent {
         let head = |kind, first, second| Digest { head: [kind, first, second, 0], ..Digest::default() };
         match answer {
             Answer::Status { identification, status } => head(1, place(identification), status_place(*status)),
-            Answer::Weight { identification, status, value, decimals, unit } => Digest {
-                head: [2, place(identification), status_place(*status), *decimals],
+            Answer::Weight { identification, status, value, decimals, unit, range } => Digest {
+                head: [weight_kind(*range == Range::Coarse), place(identification), status_place(*status), *decimals],
                 unit: unit.nanograms() as u64,
                 len: 0,
                 value: *value,

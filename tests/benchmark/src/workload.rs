@@ -41,9 +41,9 @@ impl Rng {
     }
 }
 
-/// The bytes of a profile: C, U, R, W; decimals and step of each unit, in the units' order; the texts of I2 to I5, each with its
+/// The bytes of a profile: C, U, R, W, F; decimals and step of each unit, in the units' order; the texts of I2 to I5, each with its
 /// length before it; zeros up to the size.
-pub fn profile(limits: [u32; 4], resolutions: [[u8; 2]; 9], texts: [&[u8]; 4]) -> Vec<u8> {
+pub fn profile(limits: [u32; 5], resolutions: [[u8; 2]; 9], texts: [&[u8]; 4]) -> Vec<u8> {
     let mut bytes: Vec<u8> = limits.iter().flat_map(|limit| limit.to_le_bytes()).collect();
     bytes.extend(resolutions.concat());
     for (text, room) in texts.iter().zip([40, 40, 20, 20]) {
@@ -55,19 +55,35 @@ pub fn profile(limits: [u32; 4], resolutions: [[u8; 2]; 9], texts: [&[u8]; 4]) -
     bytes
 }
 
-/// Profile A's limits; its decimals and steps, g with four and the others with two.
-const LIMITS_A: [u32; 4] = [220_000_000, 1_000_000, 4_400_000, 3];
+/// Profile A's limits, with F = C; its decimals and steps, g with four and the others with two; its texts.
+const LIMITS_A: [u32; 5] = [220_000_000, 1_000_000, 4_400_000, 3, 220_000_000];
 const RESOLUTIONS_A: [[u8; 2]; 9] = [[4, 1], [2, 1], [2, 1], [2, 1], [2, 1], [2, 1], [2, 1], [2, 1], [2, 1]];
+
+const TEXTS_A: [&[u8]; 4] = [b"", b"", b"VA-0001", b""];
 
 /// Document 01's profile A.
 pub fn profile_a() -> Vec<u8> {
-    profile(LIMITS_A, RESOLUTIONS_A, [b"", b"", b"VA-0001", b""])
+    profile(LIMITS_A, RESOLUTIONS_A, TEXTS_A)
 }
 
-/// The same with the longest texts.
+/// The same with this fine limit.
+pub fn profile_with_fine(fine: u32) -> Vec<u8> {
+    let mut limits = LIMITS_A;
+    limits[4] = fine;
+    profile(limits, RESOLUTIONS_A, TEXTS_A)
+}
+
+/// That of the rows of the coarse range, and a load in it.
+pub const FINE: u32 = 100_000_000;
+pub const COARSE_LOAD: i32 = 150_000_000;
+
+/// Profile A with the longest texts.
 pub fn profile_with_texts() -> Vec<u8> {
     profile(LIMITS_A, RESOLUTIONS_A, [&[b'm'; 40], &[b's'; 40], &[b'n'; 20], &[b'i'; 20]])
 }
+
+/// The load of the rows of profile A.
+const LOAD: i32 = 14_256_050;
 
 /// What is lent to a call: enough for every answer.
 pub const ROOM: u16 = 384;
@@ -111,14 +127,23 @@ impl Script {
     /// A power-on and a sample, and SR runs.
     pub fn sr_started(&mut self) {
         self.power_on();
-        self.sample(14_256_050, true);
+        self.sample(LOAD, true);
         self.line(b"SR");
     }
 
     /// Samples that lie close together, one in four unstable.
     pub fn close_samples(&mut self, count: usize) {
+        self.samples_from(LOAD, count);
+    }
+
+    /// The same in the coarse range.
+    pub fn coarse_samples(&mut self, count: usize) {
+        self.samples_from(COARSE_LOAD, count);
+    }
+
+    fn samples_from(&mut self, load: i32, count: usize) {
         for i in 0..count as i32 {
-            self.sample(14_256_050 + i % 1000 * 37, i % 4 != 0);
+            self.sample(load + i % 1000 * 37, i % 4 != 0);
         }
     }
 
@@ -151,9 +176,14 @@ impl Script {
 
 /// A power-on and a stable sample, then the body so many times.
 pub fn repeated(count: usize, body: &Script) -> Script {
+    repeated_at(LOAD, count, body)
+}
+
+/// The same with another load.
+pub fn repeated_at(load: i32, count: usize, body: &Script) -> Script {
     let mut script = Script::default();
     script.power_on();
-    script.sample(14_256_050, true);
+    script.sample(load, true);
     script.times(count, body);
     script
 }
@@ -196,21 +226,41 @@ fn any_text(rng: &mut Rng, room: usize) -> Vec<u8> {
     (0..length).map(|_| byte(rng)).collect()
 }
 
-/// Decimals and step of a unit, as a rule such that this lowest net, of this size, fits.
-fn any_resolution(rng: &mut Rng, unit: weight::Unit, lowest: u32) -> [u8; 2] {
+/// Decimals and step of a unit, as a rule such that this lowest net, of this size, fits, in one range or two.
+fn any_resolution(rng: &mut Rng, unit: weight::Unit, lowest: u32, has_coarse: bool) -> [u8; 2] {
     let may_be_refused = rng.chance(2);
     loop {
         let (decimals, step) = (rng.below(7) as u8, [1, 2, 5][rng.below(3) as usize]);
         if may_be_refused && rng.chance(50) {
             return [rng.between(6, 9) as u8, rng.below(7) as u8];
         }
-        if may_be_refused || (Scale { unit, decimals, step }).is_allowed(lowest) {
+        if may_be_refused || (Scale { unit, decimals, step }).is_allowed(lowest, has_coarse) {
             return [decimals, step];
         }
     }
 }
 
-/// Profiles with decimals and a step for every unit; some of them are refused.
+/// A fine limit, in most profiles below the capacity. With a lowest net above this size mg has no two ranges.
+fn any_fine(rng: &mut Rng, capacity: u32, lowest: u32) -> u32 {
+    if rng.chance(2) {
+        return capacity + 1;
+    }
+    if lowest > 990_000_000 {
+        return capacity;
+    }
+    let limit = match rng.below(8) {
+        0 => 0,
+        1 => 1,
+        2 => capacity.saturating_sub(1),
+        3 => rng.below(2000) as u32,
+        4 => FINE,
+        5 => rng.between(0, capacity.into()) as u32,
+        _ => capacity,
+    };
+    limit.min(capacity)
+}
+
+/// Profiles with decimals and a step for every unit, with one range and with two; some of them are refused.
 pub fn any_profiles(rng: &mut Rng, count: usize) -> Vec<u8> {
     let mut profiles = profile_a();
     for _ in 1..count {
@@ -220,15 +270,17 @@ pub fn any_profiles(rng: &mut Rng, count: usize) -> Vec<u8> {
             rng.between(0, most) as u32
         };
         let least = i64::from(!rng.chance(3));
-        let limits = [capacity, part(rng), part(rng), rng.between(least, 5) as u32];
-        let lowest = limits[0] + limits[1];
-        let resolutions = weight::UNITS.map(|unit| any_resolution(rng, unit, lowest));
+        let (underload, zeroing, timeout) = (part(rng), part(rng), rng.between(least, 5) as u32);
+        let lowest = capacity + underload;
+        let fine = any_fine(rng, capacity, lowest);
+        let limits = [capacity, underload, zeroing, timeout, fine];
+        let resolutions = weight::UNITS.map(|unit| any_resolution(rng, unit, lowest, fine < capacity));
         let texts = [40, 40, 20, 20].map(|room| any_text(rng, room));
         let [two, three, four, five] = &texts;
         profiles.extend(profile(limits, resolutions, [two, three, four, five]));
         if rng.chance(5) {
             // A text with a quote, or one that is too long.
-            let at = profiles.len() - SIZE + 75;
+            let at = profiles.len() - SIZE + 79;
             profiles[at] = if rng.chance(50) { 41 } else { 1 };
             profiles[at + 1] = b'"';
         }
@@ -257,10 +309,12 @@ fn any_unit_command(rng: &mut Rng) -> Vec<u8> {
 fn any_number(rng: &mut Rng) -> Vec<u8> {
     let whole = rng.digits(6);
     let decimals = rng.below(8) as usize;
-    match rng.below(8) {
+    match rng.below(9) {
         0 => whole.to_string().into_bytes(),
         1 => format!("{whole}.").into_bytes(),
         2 => format!(".{whole}").into_bytes(),
+        // In grams at either side of one fine limit.
+        3 => format!("100.0{:04}", rng.below(20)).into_bytes(),
         _ => format!("{whole}.{:0decimals$}", rng.below(10u64.pow(decimals as u32))).into_bytes(),
     }
 }
@@ -285,10 +339,11 @@ fn any_command(rng: &mut Rng) -> Vec<u8> {
 }
 
 pub fn any_load(rng: &mut Rng) -> i32 {
-    match rng.below(10) {
+    match rng.below(11) {
         0 => rng.next() as i32,
         1..=3 => rng.between(-2000, 2000) as i32,
         4 => rng.between(-5_000_000, 5_000_000) as i32,
+        5 => FINE as i32 + rng.between(-2, 2) as i32,
         _ => rng.below(230_000_000) as i32 >> rng.below(12),
     }
 }
@@ -313,7 +368,8 @@ fn any_step(rng: &mut Rng, profiles: usize, room: &mut u16, script: &mut Script)
     }
 }
 
-/// A random history: every command, faults, short buffers, waits, repetition, send on change, units that change. `profiles` is how many there are.
+/// A random history: every command, faults, short buffers, waits, repetition, send on change, units that change, weights of both ranges.
+/// `profiles` is how many there are.
 pub fn any_history(rng: &mut Rng, profiles: usize, calls: usize) -> Script {
     let mut script = Script::default();
     script.power_on();
@@ -484,6 +540,31 @@ pub fn weight_lines() -> Vec<Vec<u8>> {
     ended(&weights)
 }
 
+pub fn coarse_lines() -> Vec<Vec<u8>> {
+    ended(&[
+        "S S   150.000  g",
+        "S D  -140.000  g",
+        "S S     0.001  g",
+        "T S   150.000  g",
+        "TA A   100.001  g",
+        "S S    4875.2  g",
+        "TI D 99999.999  dwt",
+        "S S   0.99999  kg",
+    ])
+}
+
+/// Refused, each for one thing: no decimal, six, a zero below zero, or spaces too many or too few.
+fn no_coarse_lines() -> Vec<Vec<u8>> {
+    ended(&[
+        "S S       150  g",
+        "S S  0.000001  g",
+        "S S    -0.000  g",
+        "S S   150.000   g",
+        "S S  150.000  g",
+        "S S   150.000 g",
+    ])
+}
+
 pub fn status_lines() -> Vec<Vec<u8>> {
     ended(&[
         "S +", "S -", "Z A", "ZI S", "ZI D", "Z +", "T -", "TI +", "TAC A", "D A", "DW A", "D L", "TA L", "S L", "S I", "I4 I",
@@ -537,7 +618,7 @@ pub fn mixed_lines() -> Vec<Vec<u8>> {
 
 /// Lines with and without damage.
 pub fn any_lines(rng: &mut Rng, count: usize) -> Vec<Vec<u8>> {
-    let good = mixed_lines();
+    let good = [mixed_lines(), coarse_lines(), no_coarse_lines()].concat();
     let mut all = Vec::new();
     while all.len() < count {
         let mut line = match rng.below(13) {
@@ -571,7 +652,8 @@ fn any_weight_line(rng: &mut Rng) -> Vec<u8> {
         _ => format!("{minus}{whole}.{:0decimals$}", rng.below(10u64.pow(decimals as u32))),
     };
     let unit = String::from_utf8_lossy(rng.pick(&UNITS)).into_owned();
-    format!("{name} {status} {number:>10} {unit}\r\n").into_bytes()
+    let field = if rng.chance(40) { format!("{number:>9} ") } else { format!("{number:>10}") };
+    format!("{name} {status} {field} {unit}\r\n").into_bytes()
 }
 
 fn any_status_line(rng: &mut Rng) -> Vec<u8> {

@@ -6,7 +6,7 @@ use benchmark::feed::{call, profile_in, take, Implementation, Outcome, Taken, BU
 use benchmark::sides::{Fast, Independent};
 use benchmark::workload::{
     any_buffer, any_history, any_lines, any_load, any_profiles, any_room, in_buffers, inner_buffers, mixed_bytes, profile,
-    profile_a, Buffers, Rng, Script, BOARD_LENT, LENT, ROOM, SIZES,
+    profile_a, profile_with_fine, repeated_at, Buffers, Rng, Script, BOARD_LENT, COARSE_LOAD, FINE, LENT, ROOM, SIZES,
 };
 use independent::module::Module;
 use independent::profile::Profile;
@@ -14,7 +14,7 @@ use independent::random;
 use independent::replay::{Called, Event, Replay};
 use independent::sweeps;
 use independent::tally::Call;
-use independent::weight::{number_text, typed_micrograms, typed_tare};
+use independent::weight::{number_text, printed, typed_micrograms, typed_number, typed_tare, Range, Scale};
 
 const PROFILES: usize = 64;
 const CALLS: usize = 200_000;
@@ -174,12 +174,35 @@ fn sr_sends_none_or_each_of_the_samples() {
     }
 }
 
+/// The rows of the coarse range measure it.
+#[test]
+fn coarse_rows_send_coarse_weights() {
+    let mut script = repeated_at(COARSE_LOAD, 0, &Script::default());
+    script.line(b"SIR");
+    let before = script.len() - 1;
+    script.coarse_samples(2_000);
+    let profiles = profile_with_fine(FINE);
+    for (outcome, out) in outcomes::<Fast>(&profiles, &script.0).skip(before) {
+        assert_eq!(outcome, Some(Outcome { refusal: 0, count: 18 }));
+        assert_eq!(&out[13..18], b"  g\r\n");
+    }
+}
+
+fn own(scale: Scale) -> fast::Scale {
+    fast::Scale { unit: FAST_UNITS[scale.unit.index()], decimals: scale.decimals, step: scale.step }
+}
+
+/// The same in the coarse range.
+fn coarse(scale: Scale) -> Scale {
+    scale.in_range(Range::Coarse)
+}
+
 /// What TA and SR make of numbers up to every capacity, in every scale: at the ties of TA's two roundings, and any.
 #[test]
 fn typed_numbers_are_the_same() {
     let mut rng = Rng::new(11);
     for scale in sweeps::allowed_scales() {
-        let own = fast::Scale { unit: FAST_UNITS[scale.unit.index()], decimals: scale.decimals, step: scale.step };
+        let own = own(scale);
         let ties =
             sweeps::second_ties(1_000_000_000, scale).into_iter().flatten().flat_map(|steps| 2 * steps - 1..=2 * steps + 1);
         let halves = (0..10).chain(ties).flat_map(|halves| sweeps::typed_halves(halves, scale));
@@ -191,7 +214,11 @@ fn typed_numbers_are_the_same() {
             let text = number.as_bytes();
             let within = |amount: &i128| *amount <= 1_000_000_000;
             let (tare, threshold) = (typed_tare(text, scale, None), typed_micrograms(text, scale, None));
-            assert_eq!(fast::typed_tare(text, own).map(i128::from).filter(within), tare.filter(within), "{number} {scale:?}");
+            assert_eq!(
+                fast::typed_tare(text, own, None).map(i128::from).filter(within),
+                tare.filter(within),
+                "{number} {scale:?}"
+            );
             assert_eq!(
                 fast::typed_threshold(text, own).map(i128::from).filter(within),
                 threshold.filter(within),
@@ -201,15 +228,78 @@ fn typed_numbers_are_the_same() {
     }
 }
 
+/// Fine limits at either side of the exact number, at 0, at 1 and any.
+#[test]
+fn typed_numbers_are_rounded_in_their_range() {
+    let mut rng = Rng::new(12);
+    let mut seen = [0usize; 2];
+    for scale in sweeps::allowed_scales().filter(|scale| scale.decimals >= 2) {
+        let fits = |amount: &i128| *amount <= 1_000_000_000;
+        for _ in 0..NUMBERS {
+            let (power, decimals) = (rng.below(11) as u32, rng.below(7) as u8);
+            let number = number_text(rng.below(10u64.pow(power)).into(), decimals, false);
+            let text = number.as_bytes();
+            let Some((value, decimals)) = typed_number(text, None) else { continue };
+            let (nanograms, below) = (value * scale.unit.nanograms(), 1000 * 10i128.pow(decimals));
+            let near = (nanograms / below).min(1_000_000_000) as u32;
+            for limit in [0, 1, near.saturating_sub(1), near, near + 1, rng.below(1_000_000_000) as u32] {
+                let is_above = nanograms > i128::from(limit) * below;
+                let expected = typed_tare(text, if is_above { coarse(scale) } else { scale }, None).filter(fits);
+                let found = fast::typed_tare(text, own(scale), Some(limit)).map(i128::from).filter(fits);
+                assert_eq!(found, expected, "{number} {scale:?} {limit}");
+                seen[usize::from(is_above)] += usize::from(found.is_some());
+            }
+        }
+    }
+    assert!(seen.iter().all(|&numbers| numbers > 10_000), "{seen:?}");
+}
+
+/// Nets of any size in every scale, rounded once, printed and read again.
+#[test]
+fn coarse_nets_are_the_same() {
+    let mut rng = Rng::new(13);
+    for scale in sweeps::allowed_scales().filter(|scale| scale.decimals >= 2) {
+        for _ in 0..NUMBERS {
+            let net = (rng.below(2_000_000_000) as i64 - 1_000_000_000) >> rng.below(20);
+            let own = own(scale).in_range(true);
+            let (places, mut field) = (own.places(net), [0; 10]);
+            let number = printed(net.into(), coarse(scale), None);
+            assert_eq!(fast::fits(places, own.decimals, true), number.len() <= 9, "{net} {scale:?}");
+            if number.len() <= 9 {
+                fast::put_field(places, own.decimals, true, &mut field);
+                assert_eq!(field.escape_ascii().to_string(), format!("{number:>9} "), "{net} {scale:?}");
+                assert_eq!(fast::read_field(&field), Some((places, own.decimals, true)));
+            }
+        }
+    }
+}
+
+/// Every unit's decimals and steps: with two ranges there are at least two decimals, and the lowest net takes at most nine characters.
+#[test]
+fn coarse_scales_are_tested_alike() {
+    for scale in sweeps::scales() {
+        let alone = !sweeps::with_widest_capacity(scale).is_refused(None);
+        let fits = |lowest: u32| alone && scale.decimals >= 2 && printed(-i128::from(lowest), coarse(scale), None).len() <= 9;
+        let (mut least, mut over) = (0, 2_000_000_001);
+        while least + 1 < over {
+            let middle = (least + over) / 2;
+            (least, over) = if fits(middle) { (middle, over) } else { (least, middle) };
+        }
+        for lowest in [1, 2, 1_000, least.max(1), over, over + 1, 2_000_000_000] {
+            assert_eq!(own(scale).is_allowed(lowest, true), fits(lowest), "{scale:?} {lowest}");
+        }
+    }
+}
+
 /// Every unit's decimals and steps, with the widest lowest net that fits and one more.
 #[test]
 fn scales_are_tested_alike() {
     for scale in sweeps::scales() {
-        let own = fast::Scale { unit: FAST_UNITS[scale.unit.index()], decimals: scale.decimals, step: scale.step };
-        let allowed = |profile: &Profile| own.is_allowed(profile.capacity + profile.margin);
+        let own = own(scale);
+        let allowed = |profile: &Profile| own.is_allowed(profile.capacity + profile.margin, false);
         let widest = sweeps::with_widest_capacity(scale);
         for capacity in [1, 2, 1_000, widest.capacity, widest.capacity + 1, 1_000_000_000] {
-            let alone = Profile { capacity: capacity.min(1_000_000_000), ..widest.clone() };
+            let alone = widest.clone().with_capacity(capacity.min(1_000_000_000));
             for margin in [0, alone.capacity / 2, alone.capacity] {
                 let profile = Profile { margin, ..alone.clone() };
                 assert_eq!(allowed(&profile), !profile.is_refused(None), "{scale:?} {margin} {capacity}");
@@ -232,7 +322,7 @@ fn aimed_histories_are_the_same() {
 
 fn assert_same(event: &Event, state: &mut <Fast as Implementation>::State) {
     let from = event.profile;
-    let limits = [from.capacity, from.margin, from.zeroing, from.patience];
+    let limits = [from.capacity, from.margin, from.zeroing, from.patience, from.fine];
     let texts = [0, 1, 2, 3].map(|at| &from.texts[at][..]);
     let resolutions = from.places.map(|places| [places.decimals, places.step]);
     let profile = Fast::profile(&profile(limits, resolutions, texts), 0);
@@ -267,8 +357,8 @@ fn lines_are_the_same() {
     let mut taken = 0;
     for line in any_lines(&mut Rng::new(8), LINES) {
         let found = digest::<Fast>(&line);
-        assert_eq!(found, digest::<Independent>(&line), "{}", line.escape_ascii());
         taken += usize::from(found.is_some());
+        assert_eq!(found, digest::<Independent>(&line), "{}", line.escape_ascii());
     }
     assert!(taken > LINES / 4, "{taken} lines were taken");
 }

@@ -62,7 +62,10 @@ pub fn all() -> Vec<Case> {
     let lines = [unit_lines(), unit_orders(), unit_kept()];
     let units = [unit_weights(), unit_typed(), unit_on_change(), unit_profiles(), unit_rooms(), unit_scripts()];
     let tables = [byte_classes(), names()];
+    let ranges = [range_limits(), range_deciding(), range_rounding(), range_typed(), range_on_change(), range_units()];
+    let limits = [range_profiles(), range_calls(), range_scripts()];
     let requested = on_change.into_iter().chain(buffers).chain(typed).chain(lines).chain(units).chain(tables);
+    let requested = requested.chain(ranges).chain(limits);
     base.into_iter().chain(requested).flatten().collect()
 }
 
@@ -1189,11 +1192,16 @@ fn unit_kept() -> Vec<Case> {
     ]
 }
 
-/// A sample, and the answers to a line in each unit, in the order of `CODES`.
+/// A sample on profile A, and the answers to a line in each unit, in the order of `CODES`.
 fn in_each(name: &'static str, sample: &str, line: &str, weights: [&str; 9]) -> Case {
+    in_each_on(name, "", sample, line, weights)
+}
+
+/// The same on profile A with some of its lines set anew.
+fn in_each_on(name: &'static str, lines: &str, sample: &str, line: &str, weights: [&str; 9]) -> Case {
     let sets = CODES.map(|code| format!("> M21 0 {code}"));
     let sent: Vec<&str> = [sample].into_iter().chain(sets.iter().flat_map(|set| [set.as_str(), line])).collect();
-    on_a(name, &sent, &weights.into_iter().flat_map(|weight| ["M21 A", weight]).collect::<Vec<_>>())
+    on_profile(name, lines, &sent, &weights.into_iter().flat_map(|weight| ["M21 A", weight]).collect::<Vec<_>>())
 }
 
 /// Weights in each of the nine.
@@ -1640,10 +1648,649 @@ fn names() -> Vec<Case> {
     ]
 }
 
+// Document 02, No. 7: DeltaRange pouches.
+
+/// Profile A with F 100 g, which the examples have.
+const DELTA: &str = "fine 100000000";
+
+/// Above F is strict, and counts in micrograms.
+fn range_limits() -> Vec<Case> {
+    vec![
+        on_profile(
+            "at F and above it",
+            DELTA,
+            &["s 100000000", "> S", "s 100000001", "> S", "u 100000000", "> SI", "u 100000001", "> SI"],
+            &["S S   100.0000 g", "S S   100.000  g", "S D   100.0000 g", "S D   100.000  g"],
+        ),
+        on_profile(
+            "a gross that prints as F",
+            DELTA,
+            &["s 100000049", "> S", "s 99999951", "> S", "s 100000499", "> S", "s 100000500", "> S"],
+            &["S S   100.000  g", "S S   100.0000 g", "S S   100.000  g", "S S   100.001  g"],
+        ),
+        on_profile(
+            "F 0",
+            "fine 0",
+            &["s 0", "> S", "s -1", "> S", "s -1000000", "> S", "s 1", "> S", "s 499", "> S", "s 500", "> S"],
+            &[
+                "S S     0.0000 g",
+                "S S     0.0000 g",
+                "S S    -1.0000 g",
+                "S S     0.000  g",
+                "S S     0.000  g",
+                "S S     0.001  g",
+            ],
+        ),
+        on_profile(
+            "F 0, a tare of 0 and of 1",
+            "fine 0",
+            &["> TA", "s 0", "> T", "s 1", "> T", "> TA", "s 0", "> SI"],
+            &["TA A     0.0000 g", "T S     0.0000 g", "T S     0.000  g", "TA A     0.000  g", "S S     0.0000 g"],
+        ),
+        on_profile("F 1", "fine 1", &["s 1", "> S", "s 2", "> S"], &["S S     0.0000 g", "S S     0.000  g"]),
+        on_profile(
+            "F a microgram below C",
+            "fine 219999999",
+            &["s 219999999", "> S", "s 220000000", "> S", "s 220000001", "> S", "s -1000001", "> S"],
+            &["S S   220.0000 g", "S S   220.000  g", "S +", "S -"],
+        ),
+        on_profile(
+            "F at C",
+            "fine 220000000",
+            &["s 220000000", "> S", "> T", "> TA", "> TA 220.0004 g", "> TA 220.00004 g", "s 220000001", "> S"],
+            &["S S   220.0000 g", "T S   220.0000 g", "TA A   220.0000 g", "TA L", "TA A   220.0000 g", "S +"],
+        ),
+    ]
+}
+
+/// Gross decides and net is printed; in a tare answer the tare decides.
+fn range_deciding() -> Vec<Case> {
+    vec![
+        on_profile(
+            "gross decides, net is printed",
+            DELTA,
+            &["s 150000000", "> T", "s 150000500", "> S", "s 10000000", "> S", "s 100000000", "> S", "s 100000001", "> S"],
+            &["T S   150.000  g", "S S     0.001  g", "S S  -140.0000 g", "S S   -50.0000 g", "S S   -50.000  g"],
+        ),
+        on_profile(
+            "a net above F of a gross below it",
+            "profile 220000000 220000000 4400000 3, fine 100000000",
+            &["s 20000000", "> T", "s -100000000", "> S", "s -200000000", "> S"],
+            &["T S    20.0000 g", "S S  -120.0000 g", "S S  -220.0000 g"],
+        ),
+        on_profile(
+            "a tare below F under a gross above it",
+            DELTA,
+            &["s 50000000", "> T", "s 200000000", "> TA", "> SI", "> TA 50 g", "u 200000000", "> TA"],
+            &["T S    50.0000 g", "TA A    50.0000 g", "S S   150.000  g", "TA A    50.0000 g", "TA A    50.0000 g"],
+        ),
+        on_profile(
+            "a tare above F over a gross below it",
+            DELTA,
+            &["s 150000000", "> TI", "s 10000000", "> TA", "> SI", "> TA 150 g", "> SI"],
+            &["TI S   150.000  g", "TA A   150.000  g", "S S  -140.0000 g", "TA A   150.000  g", "S S  -140.0000 g"],
+        ),
+        on_profile(
+            "a tare at F and above it",
+            DELTA,
+            &["s 100000000", "> T", "> TA", "u 100000001", "> TI", "> TA", "s 100000001", "> T"],
+            &["T S   100.0000 g", "TA A   100.0000 g", "TI D   100.000  g", "TA A   100.000  g", "T S   100.000  g"],
+        ),
+        on_profile(
+            "a tare above F before any sample",
+            DELTA,
+            &["> TA 150 g", "> TA", "> TAC", "> TA"],
+            &["TA A   150.000  g", "TA A   150.000  g", "TAC A", "TA A     0.0000 g"],
+        ),
+        on_profile(
+            "the load is no gross",
+            DELTA,
+            &[
+                "s 4000000",
+                "> Z",
+                "s 104000000",
+                "> S",
+                "s 104000001",
+                "> S",
+                "s -4000000",
+                "> Z",
+                "s 96000000",
+                "> S",
+                "s 96000001",
+                "> S",
+            ],
+            &["Z A", "S S   100.0000 g", "S S   100.000  g", "Z A", "S S   100.0000 g", "S S   100.000  g"],
+        ),
+        on_profile(
+            "back in the fine range at once",
+            DELTA,
+            &["u 150000000", "> SIR", "s 99999951", "u 100000001", "s 100000000", "s 0"],
+            &["S D   150.000  g", "S S   100.0000 g", "S D   100.000  g", "S S   100.0000 g", "S S     0.0000 g"],
+        ),
+        on_profile(
+            "waits are judged by the stable sample",
+            DELTA,
+            &["u 150000000", "> S", "s 50000000", "u 50000000", "> T", "s 150000000", "> SI"],
+            &["S S    50.0000 g", "T S   150.000  g", "S S     0.000  g"],
+        ),
+    ]
+}
+
+/// One rounding, to multiples of ten steps.
+fn range_rounding() -> Vec<Case> {
+    let fives = "unit g 4 5, fine 100000000";
+    let twos = "unit g 4 2, fine 100000000";
+    vec![
+        on_profile(
+            "1,450, 1,500, 500 and their like",
+            DELTA,
+            &[
+                "s 150000000",
+                "> T",
+                "s 150001450",
+                "> S",
+                "s 150001499",
+                "> S",
+                "s 150001500",
+                "> S",
+                "s 150000500",
+                "> S",
+                "s 150000499",
+                "> S",
+            ],
+            &[
+                "T S   150.000  g",
+                "S S     0.001  g",
+                "S S     0.001  g",
+                "S S     0.002  g",
+                "S S     0.001  g",
+                "S S     0.000  g",
+            ],
+        ),
+        on_profile(
+            "below zero",
+            DELTA,
+            &["s 150000000", "> T", "s 149999500", "> S", "s 149999501", "> S", "s 149998500", "> S", "s 149998501", "> S"],
+            &["T S   150.000  g", "S S    -0.001  g", "S S     0.000  g", "S S    -0.002  g", "S S    -0.001  g"],
+        ),
+        on_profile(
+            "steps of five",
+            fives,
+            &[
+                "s 150000000",
+                "> T",
+                "s 150002499",
+                "> S",
+                "s 150002500",
+                "> S",
+                "s 149997501",
+                "> S",
+                "s 149997500",
+                "> S",
+                "s 150007450",
+                "> S",
+            ],
+            &[
+                "T S   150.000  g",
+                "S S     0.000  g",
+                "S S     0.005  g",
+                "S S     0.000  g",
+                "S S    -0.005  g",
+                "S S     0.005  g",
+            ],
+        ),
+        on_profile(
+            "steps of two",
+            twos,
+            &["s 150000999", "> S", "s 150001000", "> S", "s 150002950", "> S", "s 150003000", "> S"],
+            &["S S   150.000  g", "S S   150.002  g", "S S   150.002  g", "S S   150.004  g"],
+        ),
+        on_profile(
+            "two decimals, of which one is left",
+            "unit g 2 1, fine 100000000",
+            &["s 100000000", "> S", "s 149949999", "> S", "s 149950000", "> S"],
+            &["S S     100.00 g", "S S     149.9  g", "S S     150.0  g"],
+        ),
+        on_profile(
+            "six decimals, of which five are left",
+            "profile 99999994 0 0 3, unit g 6 1, fine 5",
+            &["s 5", "> S", "s 6", "> S", "s 99999994", "> S", "> T", "s 0", "> S"],
+            &["S S   0.000005 g", "S S   0.00001  g", "S S  99.99999  g", "T S  99.99999  g", "S S -99.999994 g"],
+        ),
+        on_profile(
+            "nine characters below zero",
+            "profile 99999994 0 0 3, unit mg 3 1, fine 0",
+            &["s 99999994", "> T", "s 1", "> S", "s 0", "> S"],
+            &["T S  99999.99  mg", "S S -99999.99  mg", "S S -99999.994 mg"],
+        ),
+    ]
+}
+
+/// The typed number itself is compared with F, and the stored tare decides how it is told.
+fn range_typed() -> Vec<Case> {
+    let beside = "fine 100000050";
+    let ounces = |fine: u32| format!("unit oz 5 1, fine {fine}");
+    vec![
+        on_profile(
+            "above F, and stored at it",
+            DELTA,
+            &["> TA 100.00004 g", "state", "> TA 100.0004 g", "state", "> TA 100 g", "> TA 100.000001 g"],
+            &[
+                "TA A   100.0000 g",
+                &tared(100_000_000),
+                "TA A   100.0000 g",
+                &tared(100_000_000),
+                "TA A   100.0000 g",
+                "TA A   100.0000 g",
+            ],
+        ),
+        on_profile(
+            "above F, and stored above it",
+            DELTA,
+            &["> TA 100.0005 g", "state", "> TA 100.000499 g", "state", "> TA 123.45678 g", "state"],
+            &[
+                "TA A   100.001  g",
+                &tared(100_001_000),
+                "TA A   100.0000 g",
+                &tared(100_000_000),
+                "TA A   123.457  g",
+                &tared(123_457_000),
+            ],
+        ),
+        on_profile(
+            "at F and below it",
+            DELTA,
+            &["> TA 100.0000 g", "state", "> TA 99.99995 g", "state", "> TA 99.999949 g", "state"],
+            &[
+                "TA A   100.0000 g",
+                &tared(100_000_000),
+                "TA A   100.0000 g",
+                &tared(100_000_000),
+                "TA A    99.9999 g",
+                &tared(99_999_900),
+            ],
+        ),
+        on_profile(
+            "L above C",
+            DELTA,
+            &[
+                "> TA 220.0004 g",
+                "state",
+                "> TA 220.000499 g",
+                "> TA 220.0005 g",
+                "state",
+                "> TA 9999999999 g",
+                "> TA 999.999999 g",
+            ],
+            &["TA A   220.000  g", &tared(220_000_000), "TA A   220.000  g", "TA L", &tared(220_000_000), "TA L", "TA L"],
+        ),
+        on_a(
+            "with F at C",
+            &["> TA 220.0004 g", "> TA 220.00005 g", "> TA 220.000049 g"],
+            &["TA L", "TA L", "TA A   220.0000 g"],
+        ),
+        on_profile(
+            "with F a microgram below C",
+            "fine 219999999",
+            &["> TA 219.999999 g", "> TA 220 g", "> TA 220.000499 g", "> TA 220.0005 g"],
+            &["TA A   220.000  g", "TA A   220.000  g", "TA A   220.000  g", "TA L"],
+        ),
+        on_profile(
+            "at F between two steps, and stored above it",
+            beside,
+            &["> TA 100.00005 g", "state", "> TA 100.000049 g", "state", "> TA 100.000051 g", "state"],
+            &[
+                "TA A   100.000  g",
+                &tared(100_000_100),
+                "TA A   100.0000 g",
+                &tared(100_000_000),
+                "TA A   100.0000 g",
+                &tared(100_000_000),
+            ],
+        ),
+        on_profile(
+            "F 0",
+            "fine 0",
+            &["> TA 0 g", "> TA 0.000499 g", "state", "> TA 0.0005 g", "state", "> TA 0.001499 g"],
+            &["TA A     0.0000 g", "TA A     0.0000 g", &tared(0), "TA A     0.001  g", &tared(1_000), "TA A     0.001  g"],
+        ),
+        on_profile(
+            "steps of five",
+            "unit g 4 5, fine 100000000",
+            &["> TA 100.002499 g", "> TA 100.0025 g", "> TA 100.0075 g", "state"],
+            &["TA A   100.0000 g", "TA A   100.005  g", "TA A   100.010  g", &tared(100_010_000)],
+        ),
+        // 1 oz is 28,349,523.125 micrograms.
+        on_profile(
+            "ounces above F by less than a microgram",
+            &ounces(28_349_523),
+            &["> TA 1.00000 oz", "state", "> TA 1.00004 oz", "state", "> TA 1.00005 oz", "state"],
+            &[
+                "TA A    1.00000 oz",
+                &tared(28_349_523),
+                "TA A    1.00000 oz",
+                &tared(28_349_523),
+                "TA A    1.0001  oz",
+                &tared(28_352_358),
+            ],
+        ),
+        on_profile(
+            "ounces below F by less than a microgram",
+            &ounces(28_349_524),
+            &["> TA 1.00000 oz", "state", "> TA 1.00004 oz", "state"],
+            &["TA A    1.00000 oz", &tared(28_349_523), "TA A    1.00000 oz", &tared(28_349_523)],
+        ),
+        // 1.00002 oz are 28,350,090.1154625 micrograms.
+        on_profile(
+            "ounces above F by less than a microgram, beside a coarse step",
+            &ounces(28_350_090),
+            &["> TA 1.00002 oz", "state", "> TA 1.000019 oz", "state"],
+            &["TA A    1.00000 oz", &tared(28_349_523), "TA A    1.00002 oz", &tared(28_350_090)],
+        ),
+        // 4 oz are 113,398,092.5 micrograms.
+        on_profile(
+            "a tie to the microgram at F",
+            &ounces(113_398_092),
+            &["> TA 4 oz", "state", "> TA 3.99995 oz", "state"],
+            &["TA A    4.0000  oz", &tared(113_398_093), "TA A    3.99995 oz", &tared(113_396_675)],
+        ),
+        on_profile(
+            "a tie to the microgram below F",
+            &ounces(113_398_093),
+            &["> TA 4 oz", "state"],
+            &["TA A    4.00000 oz", &tared(113_398_093)],
+        ),
+        on_profile(
+            "the gross decides no step",
+            DELTA,
+            &["s 150000000", "> TA 50.00004 g", "> TA 50.0001 g", "s 50000000", "> TA 150.0001 g", "> TA 50.0001 g"],
+            &["TA A    50.0000 g", "TA A    50.0001 g", "TA A   150.000  g", "TA A    50.0001 g"],
+        ),
+    ]
+}
+
+/// SR counts fine steps, and its number is rounded to none.
+fn range_on_change() -> Vec<Case> {
+    let runs =
+        |load: u32, last: u32| format!("state zero 0 tare 0 sample s {load} waits none repeats SR {last} - shows weight line 0");
+    vec![
+        on_profile(
+            "30 fine steps",
+            "fine 0",
+            &["s 0", "> SR", "s 2999", "s 3000", "s 5999", "state", "s 6000"],
+            &["S S     0.0000 g", "S S     0.003  g", &runs(5999, 3000), "S S     0.006  g"],
+        ),
+        on_profile(
+            "the exact net is kept",
+            "fine 0",
+            &["s 1450", "> SR", "state", "s 4449", "s 4450", "state"],
+            &["S S     0.001  g", &runs(1450, 1450), "S S     0.004  g", &runs(4450, 4450)],
+        ),
+        on_profile(
+            "a change of range is none",
+            DELTA,
+            &["s 100000000", "> T", "> SR", "s 100000001", "s 100002999", "s 100003000", "u 100000000", "s 100000000"],
+            &["T S   100.0000 g", "S S     0.0000 g", "S S     0.003  g", "S D     0.0000 g", "S S     0.0000 g"],
+        ),
+        on_profile(
+            "a threshold above F",
+            "fine 1000",
+            &["s 0", "> SR 0.001449 g", "s 1448", "s 1449", "state"],
+            &[
+                "S S     0.0000 g",
+                "S S     0.001  g",
+                "state zero 0 tare 0 sample s 1449 waits none repeats SR 1449 1449 shows weight line 0",
+            ],
+        ),
+        on_profile(
+            "out of range and back",
+            DELTA,
+            &["s 150000000", "> SR", "u 220000001", "s 150000000", "u 50000000", "s 150000000"],
+            &["S S   150.000  g", "S +", "S D    50.0000 g", "S S   150.000  g"],
+        ),
+    ]
+}
+
+/// F is micrograms whichever unit is in force.
+fn range_units() -> Vec<Case> {
+    vec![
+        in_each_on(
+            "every unit above F",
+            DELTA,
+            "s 150000000",
+            "> SI",
+            [
+                "S S       0.2  kg",
+                "S S  150000.0  mg",
+                "S S     750.0  ct",
+                "S S       0.3  lb",
+                "S S       5.3  oz",
+                "S S       4.8  ozt",
+                "S S    2314.9  GN",
+                "S S      96.5  dwt",
+                "S S   150.000  g",
+            ],
+        ),
+        in_each_on(
+            "every unit at F",
+            DELTA,
+            "s 100000000",
+            "> TI",
+            [
+                "TI S       0.10 kg",
+                "TI S  100000.00 mg",
+                "TI S     500.00 ct",
+                "TI S       0.22 lb",
+                "TI S       3.53 oz",
+                "TI S       3.22 ozt",
+                "TI S    1543.24 GN",
+                "TI S      64.30 dwt",
+                "TI S   100.0000 g",
+            ],
+        ),
+        on_profile(
+            "a tare above F in another unit",
+            DELTA,
+            &[
+                "> TA 100.0005 g",
+                "> M21 0 5",
+                "> TA",
+                "> TA 500.04 ct",
+                "> M21 0 0",
+                "> TA",
+                "> M21 0 5",
+                "> TA 500.05 ct",
+                "> M21 0 0",
+                "> TA",
+            ],
+            &[
+                "TA A   100.001  g",
+                "M21 A",
+                "TA A     500.0  ct",
+                "TA A     500.00 ct",
+                "M21 A",
+                "TA A   100.0000 g",
+                "M21 A",
+                "TA A     500.1  ct",
+                "M21 A",
+                "TA A   100.020  g",
+            ],
+        ),
+    ]
+}
+
+/// Refusal 1 for breaking what a fine limit asks for.
+fn range_profiles() -> Vec<Case> {
+    let milligrams = |capacity: u32, fine: u32| format!("profile {capacity} 0 4400000 3, unit mg 3 1, fine {fine}");
+    let granted = |name, lines: &str| on_profile(name, lines, &["> DW"], &["DW A"]);
+    vec![
+        granted("milligrams that fit with F at C", &milligrams(99_999_999, 99_999_999)),
+        refused("milligrams that do not fit coarse, F just below C", &milligrams(99_999_999, 99_999_998)),
+        refused("milligrams that do not fit coarse, F 0", &milligrams(99_999_995, 0)),
+        granted("milligrams that fit coarse, F 0", &milligrams(99_999_994, 0)),
+        granted("milligrams that fit coarse, F just below C", &milligrams(99_999_994, 99_999_993)),
+        granted("a margin that fits coarse", "profile 90000000 9999994 0 3, unit mg 3 1, fine 0"),
+        refused("a margin that does not fit coarse", "profile 90000000 9999995 0 3, unit mg 3 1, fine 0"),
+        granted("a margin that fits without a coarse range", "profile 90000000 9999995 0 3, unit mg 3 1"),
+        granted("grams in steps of two that fit coarse", "profile 99999989 0 0 3, unit g 6 2, fine 0"),
+        refused("grams in steps of two that do not", "profile 99999990 0 0 3, unit g 6 2, fine 0"),
+        refused("grams that do not fit coarse", "profile 99999995 0 0 3, unit g 6 1, fine 99999994"),
+        granted("grams that fit coarse", "profile 99999994 0 0 3, unit g 6 1, fine 99999993"),
+        // 999.9999 GN are 64,798,903.5 micrograms.
+        granted("grains that fit coarse", "profile 64798903 0 0 3, unit GN 5 2, fine 5"),
+        refused("grains that do not fit coarse", "profile 64798904 0 0 3, unit GN 5 2, fine 5"),
+        granted("grains that need not fit coarse", "profile 64798904 0 0 3, unit GN 5 2"),
+        refused("one decimal of kilograms, F 0", "unit kg 1 1, fine 0"),
+        refused("one decimal of kilograms, F just below C", "unit kg 1 1, fine 219999999"),
+        granted("one decimal of kilograms, F at C", "unit kg 1 1, fine 220000000"),
+        refused("no decimals of kilograms, F 0", "unit kg 0 1, fine 0"),
+        granted("no decimals of kilograms, F at C", "unit kg 0 1"),
+        granted("two decimals of grams", "unit g 2 1, fine 0"),
+        refused("one decimal of grams", "unit g 1 1, fine 0"),
+        refused("one decimal of pounds", "unit lb 1 5, fine 1"),
+        refused("F above C", "fine 220000001"),
+        refused("the largest F", "fine 4294967295"),
+        refused("no capacity, F 0", "profile 0 0 0 3, fine 0"),
+        granted("C 1, F 0", "profile 1 0 0 3, fine 0"),
+        granted("C 1, F 1", "profile 1 0 0 3, fine 1"),
+        refused("C 1, F 2", "profile 1 0 0 3, fine 2"),
+        granted("the largest C without a coarse range", "profile 1000000000 1000000000 0 3, unit mg 0 1"),
+        refused("the largest C with a coarse range", "profile 1000000000 0 0 3, fine 999999999"),
+        granted("the largest U + C beside a coarse range", "profile 999999949 0 0 3, fine 999999948"),
+        refused("one more", "profile 999999950 0 0 3, fine 999999949"),
+    ]
+}
+
+/// Each call tests the profile; single bytes and whole buffers print in the same range, in a room of 18 bytes.
+fn range_calls() -> Vec<Case> {
+    vec![
+        on_a(
+            "refused at each call, and nothing changed",
+            &["s 5", "fine 220000001", "> S", "s 6", "w", "w- 53", "on", "fine 220000000", "state", "> SI"],
+            &[
+                &["refused 1"; 7][..],
+                &["state zero 0 tare 0 sample s 5 waits none repeats no shows weight line 0", "S S     0.0000 g"],
+            ]
+            .concat(),
+        ),
+        on_profile(
+            "a unit that loses its decimals",
+            DELTA,
+            &["s 150000000", "unit lb 1 1", "> SI", "unit lb 2 1", "> SI", "unit lb 1 1", "fine 220000000", "> SI"],
+            &[&["refused 1"; 4][..], &["S S   150.000  g", "S S   150.0000 g"]].concat(),
+        ),
+        on_profile(
+            "F moved between calls",
+            DELTA,
+            &["s 150000000", "> T", "> TA", "fine 150000000", "> TA", "> SI", "fine 149999999", "> TA", "> SI", "fine 0", "> SI"],
+            &[
+                "T S   150.000  g",
+                "TA A   150.000  g",
+                "TA A   150.0000 g",
+                "S S     0.0000 g",
+                "TA A   150.000  g",
+                "S S     0.000  g",
+                "S S     0.000  g",
+            ],
+        ),
+        on_profile(
+            "rooms of 17 and 18",
+            DELTA,
+            &["s 150000000", "room 17", "> SI", "room 18", "b 0A", "room 35", &whole("SI\r\nSI\r\n"), "room 18", "w 0A"],
+            &["refused 3", "S S   150.000  g", "S S   150.000  g", "took 7", "S S   150.000  g"],
+        ),
+        on_profile(
+            "a whole buffer",
+            DELTA,
+            &["s 150000000", &whole("SI\r\nT\r\nTA\r\nTA 100.0004 g\r\nSI\r\nTA 220.0005 g\r\n")],
+            &["S S   150.000  g", "T S   150.000  g", "TA A   150.000  g", "TA A   100.0000 g", "S S    50.000  g", "TA L"],
+        ),
+        on_profile(
+            "@ and power-on keep F",
+            DELTA,
+            &["s 150000000", "> @", "> SI", "on", "s 150000000", "> SI"],
+            &[ON, "S S   150.000  g", ON, "S S   150.000  g"],
+        ),
+    ]
+}
+
+/// `fine` sets F alone, `profile` sets it to C, and no other line does.
+fn range_scripts() -> Vec<Case> {
+    let coarse = "S S   150.000  g";
+    vec![
+        on_profile(
+            "lines that leave F",
+            DELTA,
+            &[
+                "s 150000000",
+                "> SI",
+                "unit g 4 1",
+                "> SI",
+                "text 2 x",
+                "> SI",
+                "room 384",
+                "> SI",
+                "# fine 220000000",
+                "fine x",
+                "> SI",
+            ],
+            &[coarse, coarse, coarse, coarse, "?", coarse],
+        ),
+        on_profile(
+            "profile sets F to C",
+            DELTA,
+            &[
+                "s 150000000",
+                "> SI",
+                A,
+                "> SI",
+                "profile 160000000 1000000 4400000 3",
+                "> SI",
+                DELTA,
+                "> SI",
+                "fine 160000001",
+                "> SI",
+            ],
+            &[coarse, "S S   150.0000 g", "S S   150.0000 g", coarse, "refused 1", "refused 1", "refused 1", "refused 1"],
+        ),
+        on_profile("a profile that is none leaves F", DELTA, &["s 150000000", "profile 1 1 1", "> SI"], &["?", coarse]),
+        on_a(
+            "lines that set no F",
+            &[
+                "fine",
+                "fine ",
+                "fine x",
+                "fine -1",
+                "fine +1",
+                "fine 1 ",
+                "fine  1",
+                "fine 1 1",
+                "fine 1.0",
+                "fine 4294967296",
+                "fine 9999999999",
+                "fine 00000000001",
+                "fine\t1",
+                "Fine 1",
+                "FINE 1",
+                "fines 1",
+                "fine1",
+                " fine 1",
+                "s 150000000",
+                "> SI",
+                "fine 0100000000",
+                "> SI",
+            ],
+            &[&["?"; 18][..], &["S S   150.0000 g", coarse]].concat(),
+        ),
+    ]
+}
+
 /// A history of lines and stable loads with their answers, and whether the tally accepts it.
 pub struct History {
     pub name: &'static str,
     pub scale: Scale,
+    /// F of profile A's C.
+    pub fine: u32,
     pub calls: Vec<(&'static str, &'static str)>,
     pub accepted: bool,
 }
@@ -1651,19 +2298,26 @@ pub struct History {
 impl History {
     /// Profile A with this scale.
     pub fn profile(&self) -> Profile {
-        Profile::a().with_scale(self.scale)
+        Profile { fine: self.fine, ..Profile::a() }.with_scale(self.scale)
     }
 }
 
 /// What the tally makes of typed tares, on profile A with these scales, of which the unit is set first; each rule has one that it
-/// rejects. Then what it makes of units.
+/// rejects. Then what it makes of units, and of ranges.
 pub fn histories() -> Vec<History> {
-    let of = |unit: Unit, decimals, step| {
-        move |name, calls: &[(&'static str, &'static str)], accepted| {
-            let set: &[_] = if unit == Unit::Ounce { &[("M21 0 8", "M21 A")] } else { &[] };
-            History { name, scale: Scale { unit, decimals, step }, calls: [set, calls].concat(), accepted }
-        }
-    };
+    typed_histories().into_iter().chain(range_histories()).collect()
+}
+
+/// Histories on one profile: ounces are set first.
+fn of(unit: Unit, decimals: u8, step: u8, fine: u32) -> impl Fn(&'static str, &[(&'static str, &'static str)], bool) -> History {
+    move |name, calls, accepted| {
+        let set: &[_] = if unit == Unit::Ounce { &[("M21 0 8", "M21 A")] } else { &[] };
+        History { name, scale: Scale { unit, decimals, step }, fine, calls: [set, calls].concat(), accepted }
+    }
+}
+
+fn typed_histories() -> Vec<History> {
+    let of = |unit, decimals, step| of(unit, decimals, step, Profile::a().capacity);
     let (grams, fives, ounces) = (of(Unit::Gram, 4, 1), of(Unit::Gram, 4, 5), of(Unit::Ounce, 5, 1));
     let (set, one_gram, one_carat) = (("M21 0 5", "M21 A"), ("SI", "S S     1.0000 g"), ("SI", "S S       1.00 ct"));
     vec![
@@ -1739,6 +2393,95 @@ pub fn histories() -> Vec<History> {
             &[set, ("TA 1 ct", "TA A       1.00 ct"), ("M21 0 0", "M21 A"), ("TA", "TA A     0.2000 g")],
             true,
         ),
+    ]
+}
+
+/// What the tally makes of a fine limit. Half a step of grams is 50 micrograms in the fine range and 500 in the coarse one.
+fn range_histories() -> Vec<History> {
+    let grams = of(Unit::Gram, 4, 1, 100_000_000);
+    let (beside, no_range) = (of(Unit::Gram, 4, 1, 100_000_050), of(Unit::Gram, 4, 1, 220_000_000));
+    let ounces = |fine| of(Unit::Ounce, 5, 1, fine);
+    let tared = [("150000000", ""), ("T", "T S   150.000  g")];
+    let then = |calls: &[(&'static str, &'static str)]| [&tared[..], calls].concat();
+    vec![
+        grams("fine at F", &[("100000000", ""), ("SI", "S S   100.0000 g")], true),
+        grams("coarse at F", &[("100000000", ""), ("SI", "S S   100.000  g")], false),
+        grams("coarse above F", &[("100000001", ""), ("SI", "S S   100.000  g")], true),
+        grams("fine above F", &[("100000001", ""), ("SI", "S S   100.0000 g")], false),
+        grams("fine above F, exact", &[("150000000", ""), ("SI", "S S   150.0000 g")], false),
+        grams("a zero in place of the space", &[("150000500", ""), ("SI", "S S   150.0010 g")], false),
+        grams("coarse below F, exact", &[("50000000", ""), ("SI", "S S    50.000  g")], false),
+        grams("half a coarse step", &[("150000500", ""), ("SI", "S S   150.000  g")], true),
+        grams("half a coarse step upwards", &[("150000500", ""), ("SI", "S S   150.001  g")], true),
+        grams("more than half a coarse step", &[("150000501", ""), ("SI", "S S   150.000  g")], false),
+        grams("half a fine step", &[("50000050", ""), ("SI", "S S    50.0000 g")], true),
+        grams("more than half a fine step below F", &[("50000051", ""), ("SI", "S S    50.0000 g")], false),
+        grams("the space before the number", &[("150000000", ""), ("SI", "S S    150.000 g")], false),
+        grams("gross decides, net is told", &then(&[("150000500", ""), ("SI", "S S     0.001  g")]), true),
+        grams("a net below F as if it decided", &then(&[("150000500", ""), ("SI", "S S     0.0005 g")]), false),
+        grams("a gross below F with a net far below", &then(&[("10000000", ""), ("SI", "S S  -140.0000 g")]), true),
+        grams("as if the tare decided", &then(&[("10000000", ""), ("SI", "S S  -140.000  g")]), false),
+        grams("the tare decides in its answer", &then(&[("10000000", ""), ("TA", "TA A   150.000  g")]), true),
+        grams("as if gross decided there", &then(&[("10000000", ""), ("TA", "TA A   150.0000 g")]), false),
+        grams("T above F told fine", &[("150000000", ""), ("T", "T S   150.0000 g")], false),
+        grams("T at F", &[("100000000", ""), ("T", "T S   100.0000 g")], true),
+        grams("T at F told coarse", &[("100000000", ""), ("T", "T S   100.000  g")], false),
+        grams("TI within half a coarse step", &[("150000500", ""), ("TI", "TI S   150.001  g")], true),
+        grams("TI beyond it", &[("150000501", ""), ("TI", "TI S   150.000  g")], false),
+        grams("the load is no gross", &[("4000000", ""), ("Z", "Z A"), ("104000000", ""), ("SI", "S S   100.0000 g")], true),
+        grams("as if it were", &[("4000000", ""), ("Z", "Z A"), ("104000000", ""), ("SI", "S S   100.000  g")], false),
+        // Typed numbers.
+        grams(
+            "typed above F, to the coarse step",
+            &[("TA 100.0004 g", "TA A   100.0000 g"), ("100000051", ""), ("SI", "S S     0.000  g")],
+            true,
+        ),
+        grams("typed above F, as if to the fine step", &[("TA 100.0004 g", "TA A   100.000  g")], false),
+        grams("typed above F, as if to the fine step and told so", &[("TA 100.0004 g", "TA A   100.0004 g")], false),
+        grams("typed above F, a tie upwards", &[("TA 100.0005 g", "TA A   100.001  g")], true),
+        grams("typed above F, a tie downwards", &[("TA 100.0005 g", "TA A   100.0000 g")], false),
+        grams(
+            "the coarse step is subtracted",
+            &[("TA 100.0006 g", "TA A   100.001  g"), ("90000000", ""), ("SI", "S S   -10.0010 g")],
+            true,
+        ),
+        grams(
+            "as if the fine step were",
+            &[("TA 100.0006 g", "TA A   100.001  g"), ("90000000", ""), ("SI", "S S   -10.0006 g")],
+            false,
+        ),
+        grams(
+            "typed below F, to the fine step",
+            &[("TA 50.0004 g", "TA A    50.0004 g"), ("90000000", ""), ("SI", "S S    39.9996 g")],
+            true,
+        ),
+        grams("typed below F, as if to the coarse step", &[("TA 50.0004 g", "TA A    50.0000 g")], false),
+        beside(
+            "typed at F, to the fine step",
+            &[("TA 100.00005 g", "TA A   100.000  g"), ("90000000", ""), ("SI", "S S   -10.0001 g")],
+            true,
+        ),
+        beside(
+            "typed at F, as if to the coarse step",
+            &[("TA 100.00005 g", "TA A   100.000  g"), ("90000000", ""), ("SI", "S S   -10.0000 g")],
+            false,
+        ),
+        beside("typed at F, told fine though it is stored above", &[("TA 100.00005 g", "TA A   100.0001 g")], false),
+        no_range("no coarse range, typed above F", &[("TA 220.0004 g", "TA A   220.0000 g")], false),
+        no_range("no coarse range, at C", &[("220000000", ""), ("SI", "S S   220.0000 g")], true),
+        no_range("no coarse range, told coarse", &[("220000000", ""), ("SI", "S S   220.000  g")], false),
+        // 1 oz is 28,349,523.125 micrograms, 4 oz are 113,398,092.5.
+        ounces(28_349_523)("the tare as it is stored", &[("TA 1.00000 oz", "TA A    1.00000 oz")], true),
+        ounces(28_349_523)("as if it were not rounded", &[("TA 1.00000 oz", "TA A    1.0000  oz")], false),
+        ounces(28_349_523)(
+            "the typed number unrounded",
+            &[("TA 1.00004 oz", "TA A    1.00000 oz"), ("28000000", ""), ("SI", "S S   -0.01233 oz")],
+            true,
+        ),
+        ounces(28_350_090)("above F by less than a microgram", &[("TA 1.00002 oz", "TA A    1.00000 oz")], true),
+        ounces(28_350_090)("as if it were compared in micrograms", &[("TA 1.00002 oz", "TA A    1.00002 oz")], false),
+        ounces(113_398_092)("a stored tie upwards", &[("TA 4 oz", "TA A    4.0000  oz")], true),
+        ounces(113_398_092)("a stored tie as if downwards", &[("TA 4 oz", "TA A    4.00000 oz")], false),
     ]
 }
 
@@ -1834,6 +2577,33 @@ pub fn captures() -> Vec<(&'static str, &'static str)> {
         ("S S     1.0000 kg\r\n", "weight S S 10000 4 kg\r\n"),
         ("TA A       0.49 lb\r\n", "weight TA A 49 2 lb\r\n"),
         ("S D  -0.000001 lb\r\n", "weight S D -1 6 lb\r\n"),
+        ("S S   150.000  g\r\n", "weight S S 150000 3 g coarse\r\n"),
+        ("S S    4875.2  g\r\n", "weight S S 48752 1 g coarse\r\n"),
+        ("S D  0.00001  lb\r\n", "refused 4\r\n"),
+        ("S D   0.00001  lb\r\n", "weight S D 1 5 lb coarse\r\n"),
+        ("S S    -0.001  g\r\n", "weight S S -1 3 g coarse\r\n"),
+        ("T S   150.000  g\r\n", "weight T S 150000 3 g coarse\r\n"),
+        ("TI S       0.0  dwt\r\n", "weight TI S 0 1 dwt coarse\r\n"),
+        ("TI D 9999999.9  mg\r\n", "weight TI D 99999999 1 mg coarse\r\n"),
+        ("TA A 999.99999  kg\r\n", "weight TA A 99999999 5 kg coarse\r\n"),
+        ("S S -999999.9  ct\r\n", "weight S S -9999999 1 ct coarse\r\n"),
+        ("S D -99.99999  oz\r\n", "weight S D -9999999 5 oz coarse\r\n"),
+        ("S S       150  g\r\n", "refused 4\r\n"),
+        ("S S  0.000001  g\r\n", "refused 4\r\n"),
+        ("S S    -0.000  g\r\n", "refused 4\r\n"),
+        ("S S    00.000  g\r\n", "refused 4\r\n"),
+        ("S S     0.000   g\r\n", "refused 4\r\n"),
+        ("S S    0.000   g\r\n", "refused 4\r\n"),
+        ("S S      .000  g\r\n", "refused 4\r\n"),
+        ("S S      150.  g\r\n", "refused 4\r\n"),
+        ("S S 99999999.9  g\r\n", "refused 4\r\n"),
+        ("S S -9999999.9  g\r\n", "refused 4\r\n"),
+        ("S S   150.000 g\r\n", "refused 4\r\n"),
+        ("S S   150.000  t\r\n", "refused 4\r\n"),
+        ("S S            g\r\n", "refused 4\r\n"),
+        ("T S    -0.001  g\r\n", "refused 4\r\n"),
+        ("TA A    -0.001  g\r\n", "refused 4\r\n"),
+        ("S A   150.000  g\r\n", "refused 4\r\n"),
         ("S S     1.0000 KG\r\n", "refused 4\r\n"),
         ("S S     1.0000 lbs\r\n", "refused 4\r\n"),
         ("S S     1.0000 t\r\n", "refused 4\r\n"),

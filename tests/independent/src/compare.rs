@@ -4,7 +4,7 @@ use crate::faults::Fault;
 use crate::profile::Profile;
 use crate::replay::{Called, Event};
 use crate::sent_on_change::Follower;
-use crate::tally::Tally;
+use crate::tally::{has_space, Tally};
 
 /// The lines of a script without their LF, or the pieces of a capture.
 pub type Script = Vec<Vec<u8>>;
@@ -104,6 +104,8 @@ pub struct Judge {
     pub calls: usize,
     pub refusals: [usize; 6],
     pub weights: usize,
+    /// Those of them in the coarse range.
+    pub coarse: usize,
     /// What the tally finds wrong.
     pub faults: Vec<String>,
     /// What the follower of SR finds wrong.
@@ -135,21 +137,27 @@ impl Judge {
             self.judges = None;
         }
         let Some((_, tally, follower)) = self.judges.as_mut() else { return };
-        let is_weight = |answer: &[u8]| answer.len() > 17 && answer[0] != b'I';
         match event.called {
             Called::Single(call) => {
                 self.weights += usize::from(is_weight(event.answer));
+                self.coarse += usize::from(is_weight(event.answer) && has_space(event.answer));
                 self.faults.extend(tally.take(call, event.refusal, event.answer).err());
                 self.strays.extend(follower.take(call, event.refusal, event.answer).err());
             }
             Called::Buffer(singly) => {
-                self.weights += singly.taken().iter().filter(|(_, answer)| is_weight(answer)).count();
+                let weights = || singly.taken().iter().filter(|(_, answer)| is_weight(answer));
+                self.weights += weights().count();
+                self.coarse += weights().filter(|(_, answer)| has_space(answer)).count();
                 self.faults.extend(tally.take_all(singly.taken()).err());
                 self.strays.extend(follower.take_all(singly.taken()).err());
             }
             Called::On => {}
         }
     }
+}
+
+fn is_weight(answer: &[u8]) -> bool {
+    answer.len() > 17 && answer[0] != b'I'
 }
 
 /// Bytes as a reader can see them.

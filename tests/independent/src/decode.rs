@@ -2,6 +2,7 @@
 
 use crate::faults::Fault;
 use crate::reader::{line_of, Answer, Reader};
+use crate::weight::Range;
 
 /// Splits after every CR LF; a last unfinished piece counts.
 pub fn pieces(capture: &[u8]) -> Vec<&[u8]> {
@@ -35,8 +36,9 @@ pub fn decode_with(reader: Reader, capture: &[u8]) -> Vec<u8> {
 fn describe(reader: Reader, piece: &[u8]) -> Vec<u8> {
     let Some(answer) = reader.read(piece) else { return b"refused 4\r\n".to_vec() };
     let mut told = match &answer {
-        Answer::Weight { identification, status, value, decimals, unit } => {
-            format!("weight {identification} {status} {value} {decimals} {}\r\n", unit.name()).into_bytes()
+        Answer::Weight { identification, status, value, decimals, unit, range } => {
+            let coarse = if *range == Range::Coarse { " coarse" } else { "" };
+            format!("weight {identification} {status} {value} {decimals} {}{coarse}\r\n", unit.name()).into_bytes()
         }
         Answer::Text { identification, text } => [b"text ", identification.as_bytes(), b" ", text, b"\r\n"].concat(),
         Answer::Unit { unit } => format!("unit {}\r\n", unit.name()).into_bytes(),

@@ -4,18 +4,21 @@ macro_rules! faults {
     (
         $list:ident: $($name:ident,)*;
         $tables:ident: $($table:ident,)*;
+        $ranges:ident: $($range:ident,)*;
         $readers:ident: $($reader:ident,)*;
         $tallies:ident: $($tally:ident,)*
     ) => {
         #[derive(Clone, Copy, Debug, PartialEq, Eq)]
-        pub enum Fault { $($name,)* $($table,)* $($reader,)* $($tally,)* }
+        pub enum Fault { $($name,)* $($table,)* $($range,)* $($reader,)* $($tally,)* }
         /// Faults of the module and its replay.
         pub const $list: &[Fault] = &[$(Fault::$name),*];
         /// What the module would do by a wrong table of byte classes or of names.
         pub const $tables: &[Fault] = &[$(Fault::$table),*];
+        /// Faults of the module and its replay where there is a coarse range, or where none is.
+        pub const $ranges: &[Fault] = &[$(Fault::$range),*];
         /// Faults of the reader of answer lines.
         pub const $readers: &[Fault] = &[$(Fault::$reader),*];
-        /// Faults of the tally, where it follows a typed tare and the unit in force.
+        /// Faults of the tally, where it follows a typed tare, the unit and the range in force.
         pub const $tallies: &[Fault] = &[$(Fault::$tally),*];
     };
 }
@@ -114,15 +117,40 @@ faults! {
     // names
     LastZeroIgnored, PartOfNameTaken, FourthByteIgnored, NamesExchanged, FirstNameMissed, LastNameMissed, ListedInByteOrder,
     ;
+    OF_THE_RANGES:
+    // which weight decides
+    CoarseAtLimit, CoarseByNet, CoarseByLoad, CoarseByTare, CoarseByGross, CoarseBySize, CoarseByPrinted, CoarseByPrintedCoarse,
+    NeverCoarse, CoarseThroughout, UnstableFine, QueryFine, TaringFine, CoarseInGramsOnly, CoarseHeld, AnswerByTypedNumber,
+    // rounding and text
+    CoarseFineFirst, CoarseLastDigitDropped, CoarseStepOfOne, CoarseTieTowardsZero, CoarseRoundedDown, CoarseMinusZeroPrinted,
+    CoarsePointMisplaced, CoarseSpaceBefore, CoarseZeroPrinted, CoarseFieldOneShort, CoarseLeftAligned,
+    // typed numbers, SR
+    TypedNeverCoarse, TypedAlwaysCoarse, TypedAtLimitCoarse, TypedComparedInSteps, TypedComparedInCoarseSteps,
+    TypedComparedInMicrograms, TypedStepByGross, TypedStepByFormerTare, TypedCoarseWithoutRange, TypedFineFirst,
+    TypedCoarseTieDownwards, TypedCoarseCut, TypedCoarseStepOfOne, ThresholdRoundedCoarse, SrCountsCoarseSteps, CoarseNetKept,
+    // the profile and its lines in a script
+    LimitAboveCapacityTaken, LimitUntestedInCalls, LimitOfZeroRefused, LimitAtCapacityRefused, OneDecimalCoarse, CoarseDecimalsUntested,
+    DecimalsWithoutRange, CoarseFitUntested, CoarseFitWithoutRange, OnlyCapacityFitsCoarse, CoarseFitsTen, OnlyInForceCoarse,
+    ProfileKeepsLimit, UnitResetsLimit, TextResetsLimit,
+    ;
     OF_THE_READER:
     ReadLeadingZero, ReadMinusZero, ReadSevenDecimals, ReadBarePoint, ReadNegativeTare, ReadLeftAligned, ReadShortField,
     ReadOtherUnit, ReadLongText, ReadQuote, ReadControl, ReadSiBusy, ReadResetBusy, ReadOtherLevel, ReadBareZeroing, ReadTrailing,
     ReadLfAlone, ReadUnfinished, ReadWrongSign, ReadAnyVersion, ReadLowerCase, ReadSrBusy, ReadSrWrong, ReadNoWrongS,
     ReadTonneCode, ReadTwentyAsPounds, ReadPaddedCode, ReadDisplayUnit, ReadUnitB, ReadLoneHost, ReadNoUnitSet, ReadNoUnitBusy,
     ReadNoUnitWrong, ReadUnitAtLevelOne, ReadNoKilograms, ReadNoPounds, ReadUnitByIndex,
+    // the coarse range
+    ReadNoCoarse, ReadCoarseReadingsOnly, ReadCoarseFiveRefused, ReadCoarseOneRefused, ReadCoarseWhole, ReadCoarseSixDecimals,
+    ReadCoarseDecimalsKept, ReadCoarseInFinePlaces, ReadCoarseAsFine, ReadCoarseTwoSpaces, ReadCoarseInTen, ReadCoarseMinusZero,
+    ReadCoarseLeadingZero, ReadCoarseNegativeTare,
     ;
     OF_THE_TALLY:
     TallyReadsUnrounded, TallyTieDownwards, TallyStepIgnored, TallyRoundsToMicrogram, TallyReadsAnswer, TallyForgetsTyped,
     TallyKeepsTyped, TallyAllowsMicrogram, TallyReadsFirstUnit, TallyStepOfGrams, TallyTypedToGramStep, TallySetsAtWrong,
     TallySetsAtBusy, TallySetsAtQuery, TallySetsByFaultyLine, TallyReadsAnyCode, TallyForgetsAtReset, TallySetsOnce,
+    // the coarse range
+    TallyTrustsSpace, TallyIgnoresSpace, TallyAllowsSpace, TallyAllowsNoSpace, TallyAtLimitCoarse, TallyRangeByNet,
+    TallyRangeByLoad, TallyRangeByGross, TallyRangeByUnroundedTare, TallyRangeTieDownwards, TallyHalvesFineStep,
+    TallyHalvesCoarseStep, TallyTypedFine, TallyTypedCoarse, TallyTypedAtLimitCoarse, TallyTypedAfterRounding,
+    TallyTypedInMicrograms, TallyTypedBySpace, TallyTypedWithoutRange,
 }

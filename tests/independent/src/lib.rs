@@ -1,4 +1,4 @@
-//! Document 01 and the first six requests of document 02 written a second time, from the paper, by plain arithmetic and strings.
+//! Document 01 and the first seven requests of document 02 written a second time, from the paper, by plain arithmetic and strings.
 //! It shares no table and no code with the proved module, which it is compared with.
 
 pub mod buffer;

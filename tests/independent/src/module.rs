@@ -3,7 +3,10 @@
 use crate::faults::Fault;
 use crate::on_change::{kept_net, least_change, OnChange};
 use crate::profile::{is_text, Profile};
-use crate::weight::{as_printed, before_roundings, typed_micrograms, typed_tare, weight_text, Scale, Unit, UNITS};
+use crate::weight::{
+    as_printed, before_roundings, number_text, typed_is_above, typed_micrograms, typed_places, typed_tare, weight_text, Range,
+    Scale, Unit, UNITS,
+};
 
 const CR: u8 = 13;
 const LF: u8 = 10;
@@ -99,6 +102,8 @@ pub struct Reading {
     pub stable: bool,
     /// + or - where gross is out of range.
     pub out: Option<char>,
+    /// What gross decides.
+    pub range: Range,
 }
 
 /// The refusal number, 0 for none, and the length of the answer.
@@ -112,7 +117,8 @@ pub struct Outcome {
 enum Parameters {
     None,
     Show(Vec<u8>),
-    Preset(i64),
+    /// A typed tare, and the range that its number was rounded in.
+    Preset(i64, Range),
     Threshold(i64),
     Unit(Unit),
     Wrong,
@@ -222,7 +228,11 @@ impl Module {
     // Refusals 1 and 2, of every call but power-on.
 
     pub(crate) fn refusal(&self, profile: &Profile, state: &State) -> Option<u8> {
-        let profile_refused = profile.is_refused_in(state.unit, self.fault);
+        let within = || Profile { fine: profile.fine.min(profile.capacity), ..profile.clone() };
+        let profile_refused = match self.fault {
+            Some(Fault::LimitUntestedInCalls) => within().is_refused_in(state.unit, None),
+            _ => profile.is_refused_in(state.unit, self.fault),
+        };
         let state_refused = self.state_refused(profile, state);
         match (profile_refused, state_refused) {
             (true, true) if self.has(Fault::RefusalTwoFirst) => Some(2),
@@ -534,8 +544,8 @@ impl Module {
                 None => Parameters::Wrong,
             },
             ("TA", Some(rest)) => match self.typed_tare(profile, state, rest) {
-                Some(0) if self.has(Fault::TypedZeroRefused) => Parameters::Wrong,
-                Some(tare) => Parameters::Preset(tare),
+                Some((0, _)) if self.has(Fault::TypedZeroRefused) => Parameters::Wrong,
+                Some((tare, range)) => Parameters::Preset(tare, range),
                 None => Parameters::Wrong,
             },
             ("SR", Some(b"")) if self.has(Fault::LoneSpaceTaken) => Parameters::None,
@@ -602,8 +612,8 @@ impl Module {
         self.can_show(text).then(|| text.to_vec())
     }
 
-    /// What a TA line sets: the microgram result at most C, save for faults.
-    fn typed_tare(&self, profile: &Profile, state: &State, rest: &[u8]) -> Option<i64> {
+    /// What a TA line sets, and the range that its number is rounded in: the microgram result at most C, save for faults.
+    fn typed_tare(&self, profile: &Profile, state: &State, rest: &[u8]) -> Option<(i64, Range)> {
         let grams = profile.scale(Unit::Gram);
         let scale = match self.fault {
             Some(Fault::TypedInGrams) => grams,
@@ -611,15 +621,51 @@ impl Module {
             _ => self.scale(profile, state),
         };
         let number = self.typed(scale, rest)?;
-        let tare = typed_tare(number, scale, self.fault)?;
+        let range = self.typed_range(profile, state, number, scale)?;
+        let tare = self.rounded_tare(number, scale, range)?;
         let capacity = i128::from(profile.capacity);
-        let before = || before_roundings(number, scale);
-        match self.fault {
+        let before = || before_roundings(number, scale.in_range(range));
+        let granted = match self.fault {
             Some(Fault::TypedLimitBeforeBoth) if before()?.0 > capacity => None,
             Some(Fault::TypedLimitBeforeSecond) if before()?.1 > capacity => None,
             Some(Fault::TypedHeldToCapacity) if before()?.0 <= capacity => Some(tare.min(capacity) as i64),
             Some(Fault::TypedCutTo32Bits) => Some(i64::from(tare as u32)).filter(|tare| i128::from(*tare) <= capacity),
             _ => (tare <= capacity + i128::from(self.has(Fault::TypedAboveCapacityTaken))).then_some(tare as i64),
+        };
+        granted.map(|tare| (tare, range))
+    }
+
+    /// The range that a typed number is rounded in: the number itself decides, before any rounding, and only beside a coarse range.
+    fn typed_range(&self, profile: &Profile, state: &State, number: &[u8], scale: Scale) -> Option<Range> {
+        let rounded_above = |micrograms: Option<i128>| Some(profile.range(micrograms?) == Range::Coarse);
+        let above = match self.fault {
+            Some(Fault::TypedNeverCoarse) => false,
+            Some(Fault::TypedAlwaysCoarse) => true,
+            Some(Fault::TypedComparedInSteps) => rounded_above(typed_tare(number, scale, None))?,
+            Some(Fault::TypedComparedInCoarseSteps) => rounded_above(typed_tare(number, scale.in_range(Range::Coarse), None))?,
+            Some(Fault::TypedComparedInMicrograms) => rounded_above(typed_micrograms(number, scale, None))?,
+            Some(Fault::TypedStepByGross) => rounded_above(Some(gross(state)))?,
+            Some(Fault::TypedStepByFormerTare) => rounded_above(Some(state.tare.into()))?,
+            _ => typed_is_above(number, scale, profile.fine, self.fault)?,
+        };
+        let beside = profile.has_coarse_range() || self.has(Fault::TypedCoarseWithoutRange);
+        Some(if above && beside { Range::Coarse } else { Range::Fine })
+    }
+
+    /// Both roundings of a typed tare in its range; what faults do in the coarse one alone.
+    fn rounded_tare(&self, number: &[u8], scale: Scale, range: Range) -> Option<i128> {
+        let ranged = scale.in_range(range);
+        match (range, self.fault) {
+            (Range::Coarse, Some(Fault::TypedFineFirst)) => {
+                let fine = number_text(typed_places(number, scale, None)?, scale.decimals, false);
+                typed_tare(fine.as_bytes(), ranged, None)
+            }
+            (Range::Coarse, Some(Fault::TypedCoarseTieDownwards)) => {
+                typed_tare(number, ranged, Some(Fault::TypedFirstTieDownwards))
+            }
+            (Range::Coarse, Some(Fault::TypedCoarseCut)) => typed_tare(number, ranged, Some(Fault::TypedFirstCut)),
+            (Range::Coarse, Some(Fault::TypedCoarseStepOfOne)) => typed_tare(number, ranged, Some(Fault::TypedStepIgnored)),
+            _ => typed_tare(number, ranged, self.fault),
         }
     }
 
@@ -628,8 +674,12 @@ impl Module {
         let unit = if self.has(Fault::ThresholdInGrams) { Unit::Gram } else { state.unit };
         let scale = profile.scale(unit);
         let number = self.typed(scale, rest)?;
-        let read = if self.has(Fault::ThresholdRoundedToStep) { typed_tare } else { typed_micrograms };
-        let threshold = read(number, scale, self.fault)?;
+        let above = || typed_is_above(number, scale, profile.fine, None) == Some(true);
+        let threshold = match self.fault {
+            Some(Fault::ThresholdRoundedToStep) => typed_tare(number, scale, None)?,
+            Some(Fault::ThresholdRoundedCoarse) if above() => typed_tare(number, scale.in_range(Range::Coarse), None)?,
+            _ => typed_micrograms(number, scale, self.fault)?,
+        };
         let most = i128::from(profile.capacity) + i128::from(self.has(Fault::ThresholdAboveCapacityTaken));
         (threshold <= most).then_some(threshold as i64)
     }
@@ -777,7 +827,7 @@ impl Module {
     /// What the S family makes of the latest sample.
     fn reading(&self, profile: &Profile, state: &State) -> Option<Reading> {
         let sample = state.latest?;
-        let gross = i128::from(sample.load) - i128::from(state.zero);
+        let gross = gross(state);
         let net = gross - i128::from(state.tare);
         let judged = if self.has(Fault::CapacityByNet) { net } else { gross };
         let most = i128::from(profile.capacity) - i128::from(self.has(Fault::CapacityOffByOne));
@@ -789,7 +839,8 @@ impl Module {
         } else {
             None
         };
-        Some(Reading { net, stable: sample.stable, out })
+        let range = self.range(profile, state, if sample.stable { "S S" } else { "S D" }, net, gross);
+        Some(Reading { net, stable: sample.stable, out, range })
     }
 
     /// The answer of S and SI to the latest sample.
@@ -797,7 +848,9 @@ impl Module {
         match self.reading(profile, state) {
             None => vec![],
             Some(Reading { out: Some(sign), .. }) => answer(&format!("S {sign}")),
-            Some(Reading { net, stable, .. }) => self.weight_line(profile, state, "S", mark(stable), net),
+            Some(Reading { net, stable, range, .. }) => {
+                self.weight_line(profile, state, &format!("S {}", mark(stable)), net, range)
+            }
         }
     }
 
@@ -809,7 +862,7 @@ impl Module {
             state.planted = state.unit.index() as u32;
         }
         if reading.out.is_none() && !kept_off {
-            state.repetition = Repetition::Sr(self.started_on_change(profile, state, reading.net, threshold));
+            state.repetition = Repetition::Sr(self.started_on_change(profile, state, reading, threshold));
         } else if self.has(Fault::SrStartedByOverload) {
             state.repetition = Repetition::Sr(OnChange { threshold, ..OnChange::default() });
         }
@@ -817,10 +870,10 @@ impl Module {
     }
 
     /// SR's memory after its first answer.
-    fn started_on_change(&self, profile: &Profile, state: &State, net: i128, threshold: Option<i64>) -> OnChange {
-        let scale = self.scale(profile, state);
+    fn started_on_change(&self, profile: &Profile, state: &State, reading: Reading, threshold: Option<i64>) -> OnChange {
+        let (net, scale) = (reading.net, self.scale(profile, state));
         let fixed = || Some(least_change(net, None, scale).min(profile.capacity.into()) as i64);
-        let memory = OnChange { last: kept_net(net, scale, self.fault), threshold, owed: false, out: false };
+        let memory = OnChange { last: kept_net(reading, scale, self.fault), threshold, owed: false, out: false };
         match self.fault {
             Some(Fault::NewSrKeepsOwed) => OnChange { owed: state.planted == 1, ..memory },
             Some(Fault::FirstNetForgotten) => OnChange { last: 0, ..memory },
@@ -855,7 +908,7 @@ impl Module {
 
     fn tare(&self, profile: &Profile, state: &mut State, name: &'static str) -> Vec<u8> {
         let Some(sample) = state.latest else { return vec![] };
-        let gross = i128::from(sample.load) - i128::from(state.zero);
+        let gross = gross(state);
         let capacity = i128::from(profile.capacity);
         if gross > capacity + i128::from(self.has(Fault::TareAboveCapacityTaken)) {
             return self.status(name, "+");
@@ -865,14 +918,16 @@ impl Module {
         }
         let before = i128::from(state.tare);
         let kept = match self.fault {
-            Some(Fault::PrintedTareSubtracted) => as_printed(gross, self.scale(profile, state)).min(capacity),
+            Some(Fault::PrintedTareSubtracted) => {
+                as_printed(gross, self.scale(profile, state).in_range(profile.range(gross))).min(capacity)
+            }
             Some(Fault::TareByNet) => (gross - before).max(0),
             _ => gross,
         };
         state.tare = kept.clamp(0, capacity) as i64;
         self.rebase(profile, state, Fault::SrRebasedByTaring);
         let told = if self.has(Fault::TareAnswersNet) { gross - before } else { gross };
-        self.weight_line(profile, state, name, mark(sample.stable), told)
+        self.tare_line(profile, state, &format!("{name} {}", mark(sample.stable)), told)
     }
 
     /// Zeroing and taring leave SR's last net; faults put the present one in its place.
@@ -884,11 +939,16 @@ impl Module {
     }
 
     fn preset_or_query(&self, profile: &Profile, state: &mut State, parameters: Parameters) -> Vec<u8> {
-        if let Parameters::Preset(tare) = parameters {
+        if let Parameters::Preset(tare, _) = parameters {
             state.tare = tare;
             self.rebase(profile, state, Fault::SrRebasedByTypedTare);
         }
-        let text = self.weight_line(profile, state, "TA", "A", state.tare.into());
+        let text = match (&parameters, self.fault) {
+            (Parameters::Preset(tare, range), Some(Fault::AnswerByTypedNumber)) => {
+                self.weight_line(profile, state, "TA A", (*tare).into(), *range)
+            }
+            _ => self.tare_line(profile, state, "TA A", state.tare.into()),
+        };
         if matches!(parameters, Parameters::None) && self.has(Fault::QueryClearsTare) {
             state.tare = 0;
         }
@@ -992,6 +1052,9 @@ impl Module {
 
     fn weigh(&self, profile: &Profile, state: &mut State, sample: Sample) -> Vec<u8> {
         state.latest = self.latest_after(profile, state, sample);
+        if self.has(Fault::CoarseHeld) {
+            state.planted = u32::from(gross(state) > profile.fine.into() || (state.planted == 1 && gross(state) > 0));
+        }
         if self.has(Fault::SampleShowsWeight) {
             state.shown = None;
         }
@@ -1032,6 +1095,7 @@ impl Module {
         let scale = match self.fault {
             Some(Fault::ThirtyStepsOfGrams) => profile.scale(Unit::Gram),
             Some(Fault::ThirtyStepsOfStart) => profile.scale(UNITS[state.planted as usize]),
+            Some(Fault::SrCountsCoarseSteps) => self.scale(profile, state).in_range(reading.range),
             _ => self.scale(profile, state),
         };
         let Repetition::Sr(memory) = &mut state.repetition else { return false };
@@ -1102,9 +1166,39 @@ impl Module {
 
     // Answers.
 
-    fn weight_line(&self, profile: &Profile, state: &State, identification: &str, status: &str, net: i128) -> Vec<u8> {
-        let text = weight_text(net, self.scale(profile, state), self.fault);
-        answer(&format!("{identification} {status} {text}"))
+    /// The range that a weight decides, save for faults. The head is what stands before the weight.
+    fn range(&self, profile: &Profile, state: &State, head: &str, net: i128, deciding: i128) -> Range {
+        let reading = head.starts_with("S ");
+        let judged = match self.fault {
+            Some(Fault::CoarseAtLimit) => deciding + 1,
+            Some(Fault::CoarseByNet) if reading => net,
+            Some(Fault::CoarseByLoad) if reading => deciding + i128::from(state.zero),
+            Some(Fault::CoarseByTare) if reading => state.tare.into(),
+            Some(Fault::CoarseByGross) if head == "TA A" => gross(state),
+            Some(Fault::CoarseBySize) => deciding.abs(),
+            Some(Fault::CoarseByPrinted) => as_printed(deciding, self.scale(profile, state)),
+            Some(Fault::CoarseByPrintedCoarse) => as_printed(deciding, self.scale(profile, state).in_range(Range::Coarse)),
+            _ => deciding,
+        };
+        match (self.fault, head) {
+            (Some(Fault::NeverCoarse), _) => Range::Fine,
+            (Some(Fault::UnstableFine), "S D" | "TI D") | (Some(Fault::QueryFine), "TA A") => Range::Fine,
+            (Some(Fault::TaringFine), "T S" | "TI S" | "TI D") => Range::Fine,
+            (Some(Fault::CoarseInGramsOnly), _) if state.unit != Unit::Gram => Range::Fine,
+            (Some(Fault::CoarseHeld), "S S" | "S D") if state.planted == 1 => Range::Coarse,
+            (Some(Fault::CoarseThroughout), _) if profile.has_coarse_range() => Range::Coarse,
+            _ => profile.range(judged),
+        }
+    }
+
+    fn weight_line(&self, profile: &Profile, state: &State, head: &str, net: i128, range: Range) -> Vec<u8> {
+        let text = weight_text(net, self.scale(profile, state), range, self.fault);
+        answer(&format!("{head} {text}"))
+    }
+
+    /// A tare answer, in which the tare is printed and decides.
+    fn tare_line(&self, profile: &Profile, state: &State, head: &str, tare: i128) -> Vec<u8> {
+        self.weight_line(profile, state, head, tare, self.range(profile, state, head, tare, tare))
     }
 
     /// I2 to I5: name, A, quoted text.
@@ -1142,6 +1236,11 @@ impl Module {
 
 fn answer(text: &str) -> Vec<u8> {
     format!("{text}\r\n").into_bytes()
+}
+
+/// The latest load less zero; a load of 0 before any.
+fn gross(state: &State) -> i128 {
+    i128::from(state.latest.map_or(0, |sample| sample.load)) - i128::from(state.zero)
 }
 
 /// S or D by the sample's mark.

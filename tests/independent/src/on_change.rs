@@ -2,7 +2,7 @@
 
 use crate::faults::Fault;
 use crate::module::Reading;
-use crate::weight::{as_printed, ten_to, Scale};
+use crate::weight::{as_printed, ten_to, Range, Scale};
 
 /// A running SR; weights are in micrograms.
 #[derive(Clone, Copy, Debug, Default, PartialEq, Eq)]
@@ -59,7 +59,7 @@ impl OnChange {
 
     fn keep(&mut self, reading: Reading, scale: Scale, fault: Option<Fault>) {
         if reading.stable || fault == Some(Fault::DynamicNetKept) {
-            self.last = kept_net(reading.net, scale, fault);
+            self.last = kept_net(reading, scale, fault);
         }
     }
 
@@ -82,9 +82,13 @@ impl OnChange {
 }
 
 /// What is kept of a net that is sent: all of it.
-pub fn kept_net(net: i128, scale: Scale, fault: Option<Fault>) -> i64 {
-    let net = if fault == Some(Fault::PrintedNetKept) { as_printed(net, scale) } else { net };
-    net as i64
+pub fn kept_net(Reading { net, range, .. }: Reading, scale: Scale, fault: Option<Fault>) -> i64 {
+    let kept = match (fault, range) {
+        (Some(Fault::PrintedNetKept), _) => as_printed(net, scale.in_range(range)),
+        (Some(Fault::CoarseNetKept), Range::Coarse) => as_printed(net, scale.in_range(range)),
+        _ => net,
+    };
+    kept as i64
 }
 
 fn is_an_eighth(change: i128, size: i128, fault: Option<Fault>) -> bool {

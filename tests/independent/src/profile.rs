@@ -1,7 +1,7 @@
 //! The profile, and when it is refused.
 
 use crate::faults::Fault;
-use crate::weight::{fits, ten_to, Places, Scale, Unit, UNITS};
+use crate::weight::{fits, fits_coarse, ten_to, Places, Range, Scale, Unit, UNITS};
 
 #[derive(Clone, Debug, PartialEq, Eq)]
 pub struct Profile {
@@ -9,6 +9,8 @@ pub struct Profile {
     pub margin: u32,
     pub zeroing: u32,
     pub patience: u32,
+    /// The fine limit F: what is above it is printed in the coarse range. F = C leaves no coarse range.
+    pub fine: u32,
     /// Of every unit, in their order.
     pub places: [Places; 9],
     /// The texts of I2, I3, I4 and I5.
@@ -23,6 +25,7 @@ impl Profile {
             margin: 1_000_000,
             zeroing: 4_400_000,
             patience: 3,
+            fine: 220_000_000,
             places: UNITS.map(|unit| Places { decimals: if unit == Unit::Gram { 4 } else { 2 }, step: 1 }),
             texts: [vec![], vec![], b"VA-0001".to_vec(), vec![]],
         }
@@ -41,6 +44,25 @@ impl Profile {
         other
     }
 
+    /// The same profile with another capacity; one without a coarse range stays so.
+    pub fn with_capacity(self, capacity: u32) -> Profile {
+        let fine = if self.has_coarse_range() { self.fine } else { capacity };
+        Profile { capacity, fine, ..self }
+    }
+
+    pub fn has_coarse_range(&self) -> bool {
+        self.fine < self.capacity
+    }
+
+    /// The range of the weight that decides, in micrograms: gross, and in a tare answer the tare.
+    pub fn range(&self, deciding: i128) -> Range {
+        if deciding > i128::from(self.fine) {
+            Range::Coarse
+        } else {
+            Range::Fine
+        }
+    }
+
     pub fn is_refused(&self, fault: Option<Fault>) -> bool {
         self.is_refused_in(Unit::Gram, fault)
     }
@@ -51,7 +73,8 @@ impl Profile {
         let scale_holds = |unit: Unit| !judged(unit, Fault::OnlyInForceScaled) || scale_holds(self.scale(unit), fault);
         let fits = |unit: Unit| {
             let tested = judged(unit, Fault::OnlyInForceFits) && judged(unit, Fault::OnlyInForceScaled);
-            !tested || self.every_net_fits(self.scale(unit), fault)
+            let coarse = || !judged(unit, Fault::OnlyInForceCoarse) || self.coarse_range_holds(self.scale(unit), fault);
+            !tested || (self.every_net_fits(self.scale(unit), fault) && coarse())
         };
         let units = || UNITS.into_iter();
         !(self.ranges_hold(fault) && units().all(scale_holds) && units().all(fits) && self.texts_hold(fault))
@@ -67,12 +90,32 @@ impl Profile {
             && (self.margin <= self.capacity || has(Fault::MarginUnchecked))
             && (self.zeroing <= self.capacity || has(Fault::ZeroingRangeUnchecked))
             && (shortest..=longest).contains(&self.patience)
+            && (self.fine <= self.capacity || has(Fault::LimitAboveCapacityTaken))
+            && (self.fine > 0 || !has(Fault::LimitOfZeroRefused))
+            && (self.fine != self.capacity || !has(Fault::LimitAtCapacityRefused))
+    }
+
+    /// Where there is a coarse range, a place can be left out of each unit's decimals, and every net fits without it.
+    fn coarse_range_holds(&self, scale: Scale, fault: Option<Fault>) -> bool {
+        let has = |one| fault == Some(one);
+        let exempt = |anyway| !self.has_coarse_range() && !has(anyway);
+        let least = if has(Fault::OneDecimalCoarse) { 1 } else { 2 };
+        let decimals = exempt(Fault::DecimalsWithoutRange) || scale.decimals >= least || has(Fault::CoarseDecimalsUntested);
+        let (lowest, capacity) = self.ends();
+        let both =
+            fits_coarse(capacity, scale, fault) && (fits_coarse(lowest, scale, fault) || has(Fault::OnlyCapacityFitsCoarse));
+        decimals && (exempt(Fault::CoarseFitWithoutRange) || both || has(Fault::CoarseFitUntested))
+    }
+
+    /// The lowest and the highest net.
+    fn ends(&self) -> (i128, i128) {
+        let capacity = i128::from(self.capacity);
+        (-(i128::from(self.margin) + capacity), capacity)
     }
 
     /// The longest texts stand at the ends of the range.
     fn every_net_fits(&self, scale: Scale, fault: Option<Fault>) -> bool {
-        let capacity = i128::from(self.capacity);
-        let lowest = -(i128::from(self.margin) + capacity);
+        let (lowest, capacity) = self.ends();
         let fits = |net| fits(net, scale, fault);
         match fault {
             Some(Fault::NoNetNeedsToFit) => true,

@@ -7,7 +7,7 @@ use crate::module::{Module, State, COMMANDS};
 use crate::on_change::least_change;
 use crate::profile::{Profile, TEXT_ROOMS};
 use crate::replay::{Called, Replay};
-use crate::weight::{number_text, ten_to, Places, Scale, Unit, UNITS};
+use crate::weight::{number_text, ten_to, Places, Range, Scale, Unit, UNITS};
 
 /// A small generator of numbers (splitmix64).
 pub struct Rng(u64);
@@ -69,19 +69,31 @@ fn some_tie(rng: &mut Rng, a: i128, b: i128, low: i128, high: i128) -> Option<i1
 
 // Profiles.
 
-fn any_places(rng: &mut Rng) -> Places {
-    Places { decimals: rng.below(7) as u8, step: rng.pick(&[1, 1, 2, 5]) }
+/// With so many decimals or more.
+fn any_places(rng: &mut Rng, fewest: u8) -> Places {
+    Places { decimals: rng.between(fewest.into(), 6) as u8, step: rng.pick(&[1, 1, 2, 5]) }
 }
 
 /// What no capacity and no margin refuses.
 const ROOMY: Places = Places { decimals: 0, step: 1 };
+/// What is refused least beside a coarse range.
+const ROOMY_COARSE: Places = Places { decimals: 2, step: 1 };
+
+fn roomy(profile: &Profile) -> Places {
+    if profile.has_coarse_range() {
+        ROOMY_COARSE
+    } else {
+        ROOMY
+    }
+}
 
 /// Each unit's decimals and step, of which those that these limits refuse are drawn again.
 fn good_places(rng: &mut Rng, mut profile: Profile) -> Profile {
-    profile.places = [ROOMY; 9];
+    let roomy = roomy(&profile);
+    profile.places = [roomy; 9];
     for unit in UNITS {
         loop {
-            profile.places[unit.index()] = any_places(rng);
+            profile.places[unit.index()] = any_places(rng, roomy.decimals);
             if !profile.is_refused(None) {
                 break;
             }
@@ -104,7 +116,7 @@ fn part_of(rng: &mut Rng, capacity: u32) -> u32 {
         0 => 0,
         1 => 1.min(capacity),
         2 => capacity,
-        3 => capacity - 1,
+        3 => capacity.saturating_sub(1),
         _ => rng.between(0, capacity.into()) as u32,
     }
 }
@@ -135,15 +147,18 @@ fn texts(rng: &mut Rng) -> [Vec<u8>; 4] {
     TEXT_ROOMS.map(|room| text_of(rng, room))
 }
 
-/// A good profile, with the unit that its limits were drawn for.
+/// A good profile, with the unit that its limits were drawn for. More than half of them have a coarse range.
 fn good_profile(rng: &mut Rng) -> (Profile, Unit) {
     let unit = rng.pick(&UNITS);
+    let coarse = rng.chance(55);
     loop {
         let capacity = any_capacity(rng);
         let (margin, zeroing) = (part_of(rng, capacity), part_of(rng, capacity));
-        let mut places = [ROOMY; 9];
-        places[unit.index()] = any_places(rng);
-        let profile = Profile { capacity, margin, zeroing, patience: any_patience(rng), places, texts: texts(rng) };
+        let fine = if coarse { 0 } else { capacity };
+        let (patience, texts) = (any_patience(rng), texts(rng));
+        let mut profile = Profile { capacity, margin, zeroing, patience, fine, places: [ROOMY; 9], texts };
+        profile.places = [roomy(&profile); 9];
+        profile.places[unit.index()] = any_places(rng, profile.places[0].decimals);
         let profile = match rng.below(100) {
             0..=19 => widest(rng, profile),
             20..=44 => at_a_step(rng, profile, unit),
@@ -153,9 +168,36 @@ fn good_profile(rng: &mut Rng) -> (Profile, Unit) {
             let places = profile.places[unit.index()];
             let mut good = good_places(rng, profile);
             good.places[unit.index()] = places;
+            if coarse {
+                good.fine = fine_limit(rng, &good, unit);
+            }
             return (good, unit);
         }
     }
+}
+
+/// A fine limit below C: at an end, or at some display steps of a range, half of one more, or a microgram beside them.
+fn fine_limit(rng: &mut Rng, profile: &Profile, unit: Unit) -> u32 {
+    let most = i128::from(profile.capacity) - 1;
+    let any = rng.between(0, most);
+    let limit = match rng.below(10) {
+        0 | 1 => 0,
+        2 => 1,
+        3 => most,
+        4 | 5 => any,
+        _ => {
+            let step = rng.pick(&[Range::Fine, Range::Coarse, Range::Coarse]);
+            near_step(rng, any, profile.scale(unit).in_range(step)) + rng.pick(&[-1, 0, 0, 0, 1])
+        }
+    };
+    limit.clamp(0, most) as u32
+}
+
+/// The micrograms of the display steps up to a weight, or of half a step more.
+fn near_step(rng: &mut Rng, micrograms: i128, scale: Scale) -> i128 {
+    let (above, below) = (i128::from(scale.step) * scale.unit.nanograms(), 1000 * ten_to(scale.decimals.into()));
+    let halves = 2 * (micrograms * below / above) + rng.pick(&[0, 0, 1]);
+    (halves * above + below) / (2 * below)
 }
 
 /// The largest capacity or margin that still fits ten characters.
@@ -163,12 +205,17 @@ fn widest(rng: &mut Rng, mut profile: Profile) -> Profile {
     if rng.chance(50) {
         profile.margin = 0;
         profile.zeroing = 0;
-        profile.capacity = largest(1_000_000_000, |capacity| !Profile { capacity, ..profile.clone() }.is_refused(None));
+        profile = widest_of(profile);
         profile.zeroing = part_of(rng, profile.capacity.max(1));
     } else {
         profile.margin = largest(profile.capacity, |margin| !Profile { margin, ..profile.clone() }.is_refused(None));
     }
     profile
+}
+
+fn widest_of(profile: Profile) -> Profile {
+    let capacity = largest(1_000_000_000, |capacity| !profile.clone().with_capacity(capacity).is_refused(None));
+    profile.with_capacity(capacity)
 }
 
 /// A capacity at the micrograms of some display steps or beside them, so that a typed tare meets it.
@@ -200,13 +247,23 @@ pub fn largest(limit: u32, passes: impl Fn(u32) -> bool) -> u32 {
 fn bad_profile(rng: &mut Rng, good: &Profile) -> Profile {
     let mut bad = good.clone();
     if rng.chance(60) {
-        bad.places = [ROOMY; 9];
+        bad.places = [roomy(good); 9];
     }
     let unit = rng.pick(&UNITS);
     let at = unit.index();
-    match rng.below(16) {
-        0 => (bad.capacity, bad.margin, bad.zeroing) = (0, 0, 0),
-        1 => bad.capacity = rng.pick(&[1_000_000_001, u32::MAX]),
+    match rng.below(22) {
+        16 => bad.fine = rng.pick(&[bad.capacity + 1, bad.capacity + 1, u32::MAX]),
+        17 | 18 => {
+            bad.places = if good.has_coarse_range() { bad.places } else { [ROOMY_COARSE; 9] };
+            bad.places[at] = Places { decimals: rng.pick(&[0, 1, 1]), step: 1 };
+            bad.fine = part_of(rng, bad.capacity - 1);
+        }
+        19..=21 => bad = unfit_coarse(rng, good),
+        0 => (bad.capacity, bad.margin, bad.zeroing, bad.fine) = (0, 0, 0, 0),
+        1 => {
+            let capacity = rng.pick(&[1_000_000_001, 1_000_000_001, u32::MAX]);
+            bad = Profile { capacity, fine: capacity, places: [ROOMY; 9], ..bad };
+        }
         2 => bad.margin = rng.pick(&[bad.capacity + 1, u32::MAX]),
         3 => bad.zeroing = rng.pick(&[bad.capacity + 1, u32::MAX]),
         4 => bad.patience = 0,
@@ -250,16 +307,47 @@ fn unfit(rng: &mut Rng, good: &Profile) -> Profile {
         bad.margin = largest(bad.capacity, |margin| !Profile { margin, ..bad.clone() }.is_refused(None)) + 1;
     } else {
         (bad.margin, bad.zeroing) = (0, 0);
-        bad.capacity = largest(1_000_000_000, |capacity| !Profile { capacity, ..bad.clone() }.is_refused(None)) + 1;
+        let widest = widest_of(bad);
+        bad = widest.clone().with_capacity(widest.capacity + 1);
     }
     bad
 }
 
-/// A profile's lines but for its texts.
-pub fn profile_lines(profile: &Profile) -> Vec<Vec<u8>> {
-    let Profile { capacity, margin, zeroing, patience, .. } = profile;
-    let numbers = format!("profile {capacity} {margin} {zeroing} {patience}");
-    [numbers].into_iter().chain(UNITS.map(|unit| unit_line(profile.scale(unit)))).map(String::into_bytes).collect()
+/// One unit whose lowest net fits in the fine range and, one more than the largest that does, not in the coarse one.
+fn unfit_coarse(rng: &mut Rng, good: &Profile) -> Profile {
+    let (unit, decimals) = rng.pick(&[
+        (Unit::Gram, 6),
+        (Unit::Milligram, 2),
+        (Unit::Milligram, 3),
+        (Unit::Milligram, 3),
+        (Unit::Carat, 5),
+        (Unit::Grain, 4),
+        (Unit::Pennyweight, 5),
+    ]);
+    let mut bad = Profile { margin: 0, zeroing: 0, fine: 0, places: [ROOMY_COARSE; 9], ..good.clone() };
+    bad.places[unit.index()] = Places { decimals, step: 1 };
+    let widest = widest_of(bad);
+    let mut bad = widest.clone().with_capacity(widest.capacity + rng.pick(&[0, 1, 1, 1]));
+    if rng.chance(30) {
+        // The same net by a margin.
+        (bad.capacity, bad.margin) = (bad.capacity - bad.capacity / 3, bad.capacity / 3);
+    }
+    bad.fine = part_of(rng, bad.capacity - 1);
+    bad
+}
+
+/// A profile's lines but for its texts. The first sets F to C, so that F has a line of its own only if it is not that.
+pub fn profile_lines(profile: &Profile) -> Vec<String> {
+    let fine = (profile.fine != profile.capacity).then(|| fine_line(profile));
+    [numbers_line(profile)].into_iter().chain(fine).chain(UNITS.map(|unit| unit_line(profile.scale(unit)))).collect()
+}
+
+fn numbers_line(Profile { capacity, margin, zeroing, patience, .. }: &Profile) -> String {
+    format!("profile {capacity} {margin} {zeroing} {patience}")
+}
+
+fn fine_line(profile: &Profile) -> String {
+    format!("fine {}", profile.fine)
 }
 
 fn unit_line(Scale { unit, decimals, step }: Scale) -> String {
@@ -270,10 +358,11 @@ fn whole_part(number: &str) -> &str {
     number.split('.').next().unwrap_or(number)
 }
 
-/// At least 1; margin and zeroing range stay within it.
+/// At least 1; margin, zeroing range and fine limit stay within it.
 fn with_capacity(profile: Profile, capacity: u32) -> Profile {
     let capacity = capacity.max(1);
-    Profile { capacity, margin: profile.margin.min(capacity), zeroing: profile.zeroing.min(capacity), ..profile }
+    let Profile { margin, zeroing, fine, .. } = profile.clone().with_capacity(capacity);
+    Profile { capacity, margin: margin.min(capacity), zeroing: zeroing.min(capacity), fine: fine.min(capacity), ..profile }
 }
 
 /// C drawn in to a limit, or U + C to one below zero, or to just below it; C keeps room for the tare.
@@ -359,7 +448,7 @@ impl Maker<'_> {
         let (good, unit) = good_profile(self.rng);
         self.say("room 384");
         for line in profile_lines(&good) {
-            self.add(line);
+            self.say(&line);
         }
         if self.rng.chance(20) {
             let bad = bad_profile(self.rng, &good);
@@ -387,9 +476,15 @@ impl Maker<'_> {
 
     /// The lines of the profile that the script does not stand at already; those of its texts where they are asked for.
     fn set_profile(&mut self, profile: &Profile, with_texts: bool) {
-        for (line, former) in profile_lines(profile).into_iter().zip(profile_lines(&self.replay.profile)) {
-            if line != former {
-                self.add(line);
+        if numbers_line(profile) != numbers_line(&self.replay.profile) {
+            self.say(&numbers_line(profile));
+        }
+        if profile.fine != self.replay.profile.fine {
+            self.say(&fine_line(profile));
+        }
+        for unit in UNITS {
+            if profile.scale(unit) != self.replay.profile.scale(unit) {
+                self.say(&unit_line(profile.scale(unit)));
             }
         }
         if with_texts {
@@ -400,7 +495,9 @@ impl Maker<'_> {
     }
 
     fn step(&mut self) {
-        match self.rng.below(106) {
+        match self.rng.below(112) {
+            106..=107 => self.move_limit(),
+            108..=111 => self.cross_limit(),
             100..=104 => self.change_units(),
             105 => self.unit_alone(),
             0..=23 => self.sample(),
@@ -457,7 +554,8 @@ impl Maker<'_> {
         self.say(&format!("{mark} {zeros}{load}"));
     }
 
-    /// A load at or near an edge: of capacity, margin, zeroing range, 32 bits, a tie of the rounding, or what a running SR sends.
+    /// A load at or near an edge: of capacity, margin, zeroing range, fine limit, 32 bits, a tie of the rounding, or what a running SR
+    /// sends.
     fn load(&mut self) -> i128 {
         let profile = self.replay.profile.clone();
         let state = self.state();
@@ -468,7 +566,10 @@ impl Maker<'_> {
         let (capacity, margin) = (i128::from(profile.capacity), i128::from(profile.margin));
         let range = i128::from(profile.zeroing);
         let near = self.rng.pick(&[-1, 0, 0, 0, 1]);
-        match self.rng.below(20) {
+        match self.rng.below(23) {
+            20 => zero + i128::from(profile.fine) + near,
+            21 => zero + tare + i128::from(profile.fine) + near,
+            22 => i128::from(profile.fine) + near,
             0 => zero + capacity + near,
             1 => zero - margin + near,
             2 => zero + near,
@@ -494,16 +595,23 @@ impl Maker<'_> {
         Some(i128::from(state.zero + state.tare + memory.last) + self.rng.pick(&[-1, 1]) * by)
     }
 
-    /// A net that is printed with a tie, or nearly.
+    /// A net that is printed with a tie in one of the ranges, or nearly; in the coarse one as a rule with a gross above F.
     fn net_tie(&mut self, profile: &Profile) -> i128 {
-        let Scale { unit, decimals, step } = profile.scale(self.state().unit);
+        let coarse = profile.has_coarse_range() && self.rng.chance(50);
+        let range = if coarse { Range::Coarse } else { Range::Fine };
+        let Scale { unit, decimals, step } = profile.scale(self.state().unit).in_range(range);
         if decimals > 7 {
             return 0;
         }
         let (above, below) = (1000 * ten_to(decimals.into()), i128::from(step.max(1)) * unit.nanograms());
-        let capacity = i128::from(profile.capacity);
-        let (low, high) =
-            if self.rng.chance(40) { (-2 * below / above - 2, 2 * below / above + 2) } else { (-capacity, capacity) };
+        let (capacity, tare) = (i128::from(profile.capacity), i128::from(self.state().tare));
+        let lowest = if coarse { i128::from(profile.fine) - tare } else { -capacity };
+        let (low, high) = if self.rng.chance(40) {
+            let near = if coarse { lowest.max(0) } else { 0 };
+            (near - 2 * below / above - 2, near + 2 * below / above + 2)
+        } else {
+            (lowest, capacity - if coarse { tare } else { 0 })
+        };
         match some_tie(self.rng, above, below, low, high) {
             Some(net) => net,
             None => (2 * self.rng.between(-9, 9) + 1) * below / (2 * above),
@@ -572,7 +680,12 @@ impl Maker<'_> {
     /// A number that TA rounds to some display steps, at a tie or beside one: to those near C, to those at a tie of the second
     /// rounding, or to any; now and then with as many more as 32 bits lose.
     fn typed_tare(&mut self) -> String {
-        let (capacity, Scale { unit, decimals, step }) = (self.replay.profile.capacity, self.scale());
+        let (capacity, coarse) = (self.replay.profile.capacity, self.replay.profile.has_coarse_range());
+        if coarse && self.rng.chance(50) {
+            return self.typed_near_limit();
+        }
+        let range = if coarse && self.rng.chance(60) { Range::Coarse } else { Range::Fine };
+        let Scale { unit, decimals, step } = self.scale().in_range(range);
         let (k, decimals) = (i128::from(step.max(1)), decimals.min(6));
         let (above, below) = (k * unit.nanograms(), 1000 * ten_to(decimals.into()));
         let most = (2 * i128::from(capacity) * below + above) / (2 * above);
@@ -589,6 +702,23 @@ impl Maker<'_> {
         let typed = if self.rng.chance(70) { longest } else { self.rng.below(longest + 1) } as u8;
         let number = above * ten_to(typed.into()) / below + self.rng.pick(&[-1, 0, 0, 0, 1]);
         number_text(number.max(0), typed, false)
+    }
+
+    /// A number at F, at some steps or half ones beside it, or in the last place beside these.
+    fn typed_near_limit(&mut self) -> String {
+        let (limit, unit) = (i128::from(self.replay.profile.fine), self.state().unit);
+        let range = self.rng.pick(&[Range::Fine, Range::Coarse]);
+        let scale = self.scale().in_range(range);
+        let step = i128::from(scale.step.max(1)) * unit.nanograms() / (1000 * ten_to(scale.decimals.min(6).into()));
+        let micrograms = match self.rng.below(8) {
+            0..=3 => limit,
+            4 => near_step(self.rng, limit, Scale { step: scale.step.max(1), decimals: scale.decimals.min(6), ..scale }),
+            _ => limit + self.rng.pick(&[-2, -1, 1, 2]) * step / 2,
+        };
+        let whole = micrograms * 1000 / unit.nanograms();
+        let decimals = 9usize.saturating_sub(whole.max(0).to_string().len()).min(6) as u8;
+        let number = micrograms * 1000 * ten_to(decimals.into()) / unit.nanograms() + self.rng.pick(&[-1, 0, 0, 0, 1, 1]);
+        number_text(number.max(0), decimals, false)
     }
 
     /// A number near C, at a tie of its rounding to micrograms, or any.
@@ -924,7 +1054,7 @@ impl Maker<'_> {
             3 => other.patience = (state.waiting.map_or(1, |wait| wait.unstable + 1)).saturating_sub(below).max(1),
             _ => {
                 let unit = if self.rng.chance(50) { state.unit } else { self.rng.pick(&UNITS) };
-                other.places[unit.index()] = any_places(self.rng);
+                other.places[unit.index()] = any_places(self.rng, roomy(former).decimals);
             }
         }
         other
@@ -951,7 +1081,7 @@ impl Maker<'_> {
     }
 
     fn odd_script_line(&mut self) {
-        const LINES: [&str; 77] = [
+        const LINES: [&str; 91] = [
             "x",
             "on ",
             " on",
@@ -1020,6 +1150,20 @@ impl Maker<'_> {
             "unit g -1 1",
             "unit lb  1 1",
             "units g 1 1",
+            "fine",
+            "fine ",
+            "fine x",
+            "fine -1",
+            "fine 1 ",
+            "fine  1",
+            "fine 1 1",
+            "fine 4294967296",
+            "fine 00000000001",
+            "fine 1.0",
+            "fine 1\r",
+            "Fine 1",
+            "fines 1",
+            "fine1",
             "room",
             "room 4097",
             "room -1",
@@ -1151,6 +1295,74 @@ impl Maker<'_> {
         if self.rng.chance(60) {
             self.say("> M21");
         }
+    }
+
+    /// F moved to the tare or gross in force or a microgram below, to C or above it, and a few answers; then as it was, by its line or
+    /// by that of the profile.
+    fn move_limit(&mut self) {
+        let (former, state) = (self.replay.profile.clone(), self.state());
+        let gross = state.latest.map_or(0, |sample| i64::from(sample.load)) - state.zero;
+        let limit = match self.rng.below(8) {
+            0 => self.rng.pick(&[u32::MAX, former.capacity.saturating_add(1)]),
+            1 => former.capacity,
+            2 => part_of(self.rng, former.capacity),
+            3 | 4 => state.tare as u32,
+            _ => gross.clamp(0, former.capacity.into()) as u32,
+        };
+        let below = self.rng.below(2) as u32;
+        self.say(&format!("fine {}", limit.saturating_sub(below)));
+        for _ in 0..self.rng.between(2, 4) {
+            match self.rng.below(9) {
+                0 => self.say("on"),
+                1 => self.sample(),
+                2 => self.new_text(),
+                3 => {
+                    let line = self.typed_line("TA");
+                    self.send(line);
+                }
+                4 | 5 => self.say("> TA"),
+                6 => self.say("> TI"),
+                _ => self.say("> SI"),
+            }
+        }
+        if self.rng.chance(30) {
+            self.say(&numbers_line(&former));
+            self.say("> TA");
+        }
+        self.set_profile(&former, false);
+    }
+
+    /// Loads at both sides of F, with a tare and without, read, tared and sent by what runs.
+    fn cross_limit(&mut self) {
+        let start = self.rng.pick(&["> SIR", "> SR", "> SR", "> TAC", "> T", "> TI"]);
+        self.say(start);
+        for _ in 0..self.rng.between(2, 5) {
+            let (profile, state) = (self.replay.profile.clone(), self.state());
+            let beside = i128::from(state.zero) + i128::from(profile.fine);
+            let load = match self.rng.below(6) {
+                0 => beside + i128::from(state.tare),
+                1 => beside + self.rng.between(-3000, 3000),
+                2 => self.changed_load(&profile, &state).unwrap_or(beside),
+                3 => i128::from(state.zero + state.tare) + self.net_tie(&profile),
+                _ => beside + self.rng.pick(&[-1, 0, 0, 1]),
+            };
+            self.put_mostly(load, 60);
+            match self.rng.below(8) {
+                0 => self.say("> T"),
+                1 => self.say("> TI"),
+                2 => self.say("> TA"),
+                3 => {
+                    let line = self.typed_line("TA");
+                    self.send(line);
+                }
+                4 => {
+                    let line = self.rng.pick(&["> Z", "> ZI", "> TAC", "> SIR", "> SR"]);
+                    self.say(line);
+                }
+                _ => self.say("> SI"),
+            }
+        }
+        self.say("> TA");
     }
 
     /// One unit's line alone, good or bad, and a few calls; then as it was.
@@ -1505,6 +1717,9 @@ fn weight_body(rng: &mut Rng) -> String {
     let head = rng.pick(&["S S", "S S", "S D", "T S", "TI S", "TI D", "TA A", "T D", "Z S", "ZI S", "SI S", "S A"]);
     let unit = if rng.chance(95) { rng.pick(&UNITS).name() } else { rng.pick(&["t", "t", "LB", "Kg", "", "G", "gn", "g "]) };
     let number = field_number(rng);
+    if rng.chance(45) {
+        return coarse_body(rng, head, &number, unit);
+    }
     match rng.below(20) {
         0 => format!("{head} {number} {unit}"),
         1 => format!("{head} {number:<10} {unit}"),
@@ -1512,6 +1727,21 @@ fn weight_body(rng: &mut Rng) -> String {
         3 => format!("{head} {number:>11} {unit}"),
         4 => format!("{head} {number:>10} {unit} "),
         _ => format!("{head} {number:>10} {unit}"),
+    }
+}
+
+/// The number in nine characters and a space after it, or nearly.
+fn coarse_body(rng: &mut Rng, head: &str, number: &str, unit: &str) -> String {
+    match rng.below(20) {
+        0 => format!("{head} {number}  {unit}"),
+        1 => format!("{head} {number:>8}  {unit}"),
+        2 => format!("{head} {number:>8}   {unit}"),
+        3 => format!("{head} {number:>10}  {unit}"),
+        4 => format!("{head} {number:>9} {unit}"),
+        5 => format!("{head} {number:<9}  {unit}"),
+        6 => format!("{head} {number:>9}  {unit} "),
+        7 => format!("{head} {number:>9}0 {unit}"),
+        _ => format!("{head} {number:>9}  {unit}"),
     }
 }
 

@@ -3,14 +3,14 @@
 use crate::faults::Fault;
 use crate::module::{Outcome, COMMANDS};
 use crate::profile::{is_text, TEXT_ROOMS};
-use crate::weight::{number_text, Unit, UNITS};
+use crate::weight::{number_text, Range, Unit, UNITS};
 
 pub const VERSIONS: &[u8] = b"I1 A \"0\" \"2.30\" \"2.20\"";
 
 #[derive(Clone, Debug, PartialEq, Eq)]
 pub enum Answer {
-    /// The value counts last places.
-    Weight { identification: String, status: char, value: i64, decimals: u8, unit: Unit },
+    /// The value counts last places, in the coarse range those that are printed there.
+    Weight { identification: String, status: char, value: i64, decimals: u8, unit: Unit, range: Range },
     /// An identification and a status: A, S, D, +, -, L or I.
     Status { identification: String, status: char },
     /// ES, ET or EL.
@@ -154,14 +154,49 @@ impl Reader {
             unit => unit?,
         };
         let short = self.has(Fault::ReadShortField) && field.len() == 9;
-        if field.len() != 10 && !short {
+        let long = self.has(Fault::ReadCoarseInTen) && field.len() == 11 && field.ends_with(b" ");
+        if field.len() != 10 && !short && !long {
             return None;
         }
-        let (value, decimals) = self.read_field(field)?;
-        if value < 0 && identification != "S" && !self.has(Fault::ReadNegativeTare) {
+        let (value, decimals, range) = match field.split_last() {
+            Some((b' ', number)) => self.read_coarse(identification, number)?,
+            _ => self.read_field(field).map(|(value, decimals)| (value, decimals, Range::Fine))?,
+        };
+        let negative = self.has(Fault::ReadNegativeTare) || (range == Range::Coarse && self.has(Fault::ReadCoarseNegativeTare));
+        if value < 0 && identification != "S" && !negative {
             return None;
         }
-        Some(Answer::Weight { identification: identification.to_string(), status, value, decimals, unit })
+        Some(Answer::Weight { identification: identification.to_string(), status, value, decimals, unit, range })
+    }
+
+    /// A number in the nine characters before a space, with a decimal fewer than the fine range can have and at least one.
+    fn read_coarse(&self, identification: &str, number: &[u8]) -> Option<(i64, u8, Range)> {
+        let number = match (self.fault, number) {
+            (Some(Fault::ReadCoarseTwoSpaces), [number @ .., b' ']) => number,
+            _ => number,
+        };
+        let (value, decimals) = self.read_field(number)?;
+        let refused = match self.fault {
+            Some(Fault::ReadNoCoarse) => true,
+            Some(Fault::ReadCoarseReadingsOnly) => identification != "S",
+            Some(Fault::ReadCoarseFiveRefused) => decimals == 5,
+            Some(Fault::ReadCoarseOneRefused) => decimals == 1,
+            _ => false,
+        };
+        let known = match self.fault {
+            Some(Fault::ReadCoarseWhole) => decimals <= 5,
+            Some(Fault::ReadCoarseSixDecimals) => (1..=6).contains(&decimals),
+            _ => (1..=5).contains(&decimals),
+        };
+        if refused || !known {
+            return None;
+        }
+        Some(match self.fault {
+            Some(Fault::ReadCoarseDecimalsKept) => (value, decimals + 1, Range::Coarse),
+            Some(Fault::ReadCoarseInFinePlaces) => (10 * value, decimals + 1, Range::Coarse),
+            Some(Fault::ReadCoarseAsFine) => (value, decimals, Range::Fine),
+            _ => (value, decimals, Range::Coarse),
+        })
     }
 
     /// Spaces, a minus, digits, a point, up to six digits.
@@ -182,7 +217,8 @@ impl Reader {
         let most = if self.has(Fault::ReadSevenDecimals) { 7 } else { 6 };
         let decimals = part.unwrap_or(b"");
         let bare = part == Some(b"") && !self.has(Fault::ReadBarePoint);
-        let padded = whole.len() > 1 && whole[0] == b'0' && !self.has(Fault::ReadLeadingZero);
+        let zeros = self.has(Fault::ReadLeadingZero) || (field.len() == 9 && self.has(Fault::ReadCoarseLeadingZero));
+        let padded = whole.len() > 1 && whole[0] == b'0' && !zeros;
         if whole.is_empty() || bare || padded || decimals.len() > most {
             return None;
         }
@@ -191,7 +227,8 @@ impl Reader {
             return None;
         }
         let value: i64 = text_of(&digits).parse().ok()?;
-        if minus && value == 0 && !self.has(Fault::ReadMinusZero) {
+        let minus_zero = self.has(Fault::ReadMinusZero) || (field.len() == 9 && self.has(Fault::ReadCoarseMinusZero));
+        if minus && value == 0 && !minus_zero {
             return None;
         }
         Some((if minus { -value } else { value }, decimals.len() as u8))
@@ -227,9 +264,9 @@ pub fn weighs(identification: &str, status: char) -> bool {
 /// The line of an answer; none if it has no line.
 pub fn line_of(answer: &Answer) -> Option<Vec<u8>> {
     let body = match answer {
-        Answer::Weight { identification, status, value, decimals, unit } => {
-            let number = weight_number(identification, *status, *value, *decimals)?;
-            format!("{identification} {status} {number:>10} {}", unit.name()).into_bytes()
+        Answer::Weight { identification, status, value, decimals, unit, range } => {
+            let field = weight_field(identification, *status, *value, *decimals, *range)?;
+            format!("{identification} {status} {field} {}", unit.name()).into_bytes()
         }
         Answer::Status { identification, status } => {
             has_status(identification, *status).then(|| format!("{identification} {status}").into_bytes())?
@@ -249,13 +286,18 @@ pub fn line_of(answer: &Answer) -> Option<Vec<u8>> {
     Some([&body[..], b"\r\n"].concat())
 }
 
-fn weight_number(identification: &str, status: char, value: i64, decimals: u8) -> Option<String> {
+/// The ten characters, of which a space is the last in the coarse range.
+fn weight_field(identification: &str, status: char, value: i64, decimals: u8, range: Range) -> Option<String> {
     let signed = identification == "S" || value >= 0;
-    if !weighs(identification, status) || !signed || decimals > 6 {
+    let (room, known, space) = match range {
+        Range::Fine => (10, decimals <= 6, ""),
+        Range::Coarse => (9, (1..=5).contains(&decimals), " "),
+    };
+    if !weighs(identification, status) || !signed || !known {
         return None;
     }
     let number = number_text(value.into(), decimals, value < 0);
-    (number.len() <= 10).then_some(number)
+    (number.len() <= room).then(|| format!("{number:>room$}{space}"))
 }
 
 /// The writer: 4 for an answer that has no line, 3 for a buffer too short.

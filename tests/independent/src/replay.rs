@@ -36,6 +36,7 @@ pub enum Called<'a> {
 enum Order {
     Nothing,
     Profile { capacity: u32, margin: u32, zeroing: u32, patience: u32 },
+    Fine(u32),
     Unit(Scale),
     Text { at: usize, text: Vec<u8> },
     Room(usize),
@@ -65,16 +66,31 @@ impl Replay {
             Some(Order::Nothing) => {}
             Some(Order::Profile { capacity, margin, zeroing, patience }) => {
                 let Profile { places, texts, .. } = self.profile.clone();
-                self.profile = Profile { capacity, margin, zeroing, patience, places, texts };
+                let fine = if self.module.has(Fault::ProfileKeepsLimit) { self.profile.fine } else { capacity };
+                self.profile = Profile { capacity, margin, zeroing, patience, fine, places, texts };
             }
-            Some(Order::Unit(scale)) => self.profile = self.profile.clone().with_scale(scale),
-            Some(Order::Text { at, text }) => self.profile.texts[at] = text,
+            Some(Order::Fine(fine)) => self.profile.fine = fine,
+            Some(Order::Unit(scale)) => {
+                self.profile = self.profile.clone().with_scale(scale);
+                self.reset_limit(Fault::UnitResetsLimit);
+            }
+            Some(Order::Text { at, text }) => {
+                self.profile.texts[at] = text;
+                self.reset_limit(Fault::TextResetsLimit);
+            }
             Some(Order::Room(room)) => self.room = room,
             Some(Order::On) => self.on(out, watch),
             Some(Order::State) => out.extend(self.state.as_ref().map_or(b"?\r\n".to_vec(), state_line)),
             Some(Order::Calls(_) | Order::Buffer { .. }) if self.state.is_none() => out.extend(b"?\r\n"),
             Some(Order::Buffer { bytes, marks }) => self.buffer(&bytes, &marks, out, watch),
             Some(Order::Calls(calls)) => calls.into_iter().for_each(|call| self.call(call, out, watch)),
+        }
+    }
+
+    /// No line but `profile` sets F to C, save for faults.
+    fn reset_limit(&mut self, fault: Fault) {
+        if self.module.has(fault) {
+            self.profile.fine = self.profile.capacity;
         }
     }
 
@@ -210,6 +226,7 @@ fn order(line: &[u8]) -> Option<Order> {
     let rest = &line[at + 1..];
     match &line[..at] {
         b"profile" => profile_order(rest),
+        b"fine" => Some(Order::Fine(number(rest, MOST)? as u32)),
         b"unit" => unit_order(rest),
         b"text" => text_order(rest),
         b"room" => Some(Order::Room(number(rest, MOST_ROOM as u64)? as usize)),

@@ -6,7 +6,7 @@ use crate::module::COMMANDS;
 use crate::on_change::least_change;
 use crate::profile::Profile;
 use crate::random::{largest, profile_lines, tie};
-use crate::weight::{number_text, ten_to, typed_tare, Places, Scale, Unit, UNITS};
+use crate::weight::{number_text, ten_to, typed_tare, Places, Range, Scale, Unit, UNITS};
 
 pub fn scripts() -> Vec<Script> {
     let mut scripts: Vec<Script> = scales().map(widths).collect();
@@ -17,6 +17,7 @@ pub fn scripts() -> Vec<Script> {
     scripts.extend([names(), bytes(), lengths(), faults(), patience(), rooms(), repetition(), display()]);
     scripts.extend([unit_parameters(), unit_moves()]);
     scripts.extend(UNITS.map(unit_limits));
+    scripts.extend(coarse_scripts());
     scripts.extend([buffer_cuts(), buffer_rooms(), buffer_faults(), buffer_lengths(), buffer_refusals()]);
     scripts
 }
@@ -24,7 +25,7 @@ pub fn scripts() -> Vec<Script> {
 /// A script on profile A, from its lines, each followed by `state`.
 fn script(lines: impl IntoIterator<Item = String>) -> Script {
     let start = profile_a().into_iter().chain(["room 384", "on"].map(String::from));
-    let is_set = |line: &str| line.starts_with("profile ") || line.starts_with("unit ");
+    let is_set = |line: &str| ["profile ", "unit ", "fine "].iter().any(|word| line.starts_with(word));
     let seen = lines.into_iter().flat_map(|line| {
         let state = (!is_set(&line)).then(|| "state".to_string());
         [line].into_iter().chain(state)
@@ -34,8 +35,7 @@ fn script(lines: impl IntoIterator<Item = String>) -> Script {
 
 /// Sets a profile and powers on, with this unit in force.
 fn started(profile: &Profile, unit: Unit) -> Vec<String> {
-    let set = profile_lines(profile).into_iter().map(|line| String::from_utf8_lossy(&line).into_owned());
-    set.chain(["on".to_string(), set_unit(unit)]).collect()
+    profile_lines(profile).into_iter().chain(["on".to_string(), set_unit(unit)]).collect()
 }
 
 /// Profile A with a scale of which no other unit draws in the limits.
@@ -61,7 +61,7 @@ fn widths(scale: Scale) -> Script {
     let lowest = widest_margin(scale);
     let profiles = [
         highest.clone(),
-        Profile { capacity: highest.capacity + 1, ..highest },
+        highest.clone().with_capacity(highest.capacity + 1),
         lowest.clone(),
         Profile { margin: lowest.margin + 1, ..lowest },
     ];
@@ -70,18 +70,26 @@ fn widths(scale: Scale) -> Script {
 
 /// The largest capacity that a scale can have, without a margin.
 fn widest_capacity(scale: Scale) -> u32 {
-    let base = alone(scale);
-    largest(1_000_000_000, |capacity| !Profile { capacity, ..base.clone() }.is_refused(None)).max(1)
+    with_widest_capacity(scale).capacity
 }
 
 pub fn with_widest_capacity(scale: Scale) -> Profile {
-    Profile { capacity: widest_capacity(scale), ..alone(scale) }
+    widest(alone(scale))
 }
 
-/// Half of that, and the largest margin beside it.
+fn widest(base: Profile) -> Profile {
+    let capacity = largest(1_000_000_000, |capacity| !base.clone().with_capacity(capacity).is_refused(None));
+    base.with_capacity(capacity.max(1))
+}
+
+/// Half of the widest capacity, and the largest margin beside it.
 fn widest_margin(scale: Scale) -> Profile {
-    let capacity = widest_capacity(scale).div_ceil(2);
-    let halved = Profile { capacity, ..alone(scale) };
+    halved(with_widest_capacity(scale))
+}
+
+fn halved(profile: Profile) -> Profile {
+    let capacity = profile.capacity.div_ceil(2);
+    let halved = profile.with_capacity(capacity);
     let margin = largest(capacity, |margin| !Profile { margin, ..halved.clone() }.is_refused(None));
     Profile { margin, ..halved }
 }
@@ -96,7 +104,7 @@ fn ends(profile: &Profile, unit: Unit) -> Vec<String> {
 fn typed_limits(unit: Unit) -> Script {
     let scale = Scale { unit, decimals: 2, step: 1 };
     let capacities = [1, 999, 50_000_000, 99_999_999];
-    script(capacities.into_iter().flat_map(|capacity| typed_around(Profile { capacity, ..alone(scale) }, unit)))
+    script(capacities.into_iter().flat_map(|capacity| typed_around(alone(scale).with_capacity(capacity), unit)))
 }
 
 fn typed_around(profile: Profile, unit: Unit) -> Vec<String> {
@@ -173,7 +181,7 @@ fn typed_beside_capacity(scale: Scale) -> Script {
         let tare = typed_tare(decimal.as_bytes(), scale, None).unwrap_or(0) as u32;
         let numbers: Vec<String> = (2 * steps - 1..=2 * steps + 1).flat_map(|halves| typed_halves(halves, scale)).collect();
         (tare.max(2) - 1..=tare + 1).flat_map(move |capacity| {
-            let profile = Profile { capacity, ..alone(scale) };
+            let profile = alone(scale).with_capacity(capacity);
             let typed = numbers.clone().into_iter().map(|number| typed_line("TA", &number, scale));
             started(&profile, scale.unit).into_iter().chain(typed).collect::<Vec<_>>()
         })
@@ -186,7 +194,7 @@ fn typed_beside_capacity(scale: Scale) -> Script {
 fn threshold_limits(unit: Unit) -> Script {
     let scale = Scale { unit, decimals: 2, step: 1 };
     let capacities = [1, 2, 999, 99_999_999];
-    script(capacities.into_iter().flat_map(|capacity| thresholds_around(Profile { capacity, ..alone(scale) }, unit)))
+    script(capacities.into_iter().flat_map(|capacity| thresholds_around(alone(scale).with_capacity(capacity), unit)))
 }
 
 fn thresholds_around(profile: Profile, unit: Unit) -> Vec<String> {
@@ -319,6 +327,148 @@ fn unit_limits(unit: Unit) -> Script {
     let each: Vec<String> = each.collect();
     let of = |unit| started(&base, unit).into_iter().chain(each.clone());
     script(of(other).chain(of(unit)))
+}
+
+// The coarse range.
+
+/// Fine limits, what is printed and typed beside them, and the profiles that they refuse.
+pub fn coarse_scripts() -> Vec<Script> {
+    let mut scripts: Vec<Script> = coarse_scales().map(coarse_widths).collect();
+    scripts.extend(coarse_scales().flat_map(|scale| [around_limits(scale), typed_around_limits(scale), coarse_changes(scale)]));
+    scripts.extend(UNITS.map(coarse_decimals));
+    scripts.push(limit_lines());
+    scripts
+}
+
+/// Those that a profile with a coarse range can have.
+pub fn coarse_scales() -> impl Iterator<Item = Scale> {
+    allowed_scales().filter(|scale| scale.decimals >= 2)
+}
+
+/// Profile A with two decimals in every unit but this one and F 0, with the widest capacity.
+pub fn widest_coarse(scale: Scale) -> Profile {
+    let places = [Places { decimals: 2, step: 1 }; 9];
+    widest(Profile { places, margin: 0, zeroing: 0, fine: 0, ..Profile::a() }.with_scale(scale))
+}
+
+/// The widest capacity and margin of a scale with a coarse range and one more of each: with the highest F that leaves one, and with
+/// none.
+fn coarse_widths(scale: Scale) -> Script {
+    let (highest, lowest) = (widest_coarse(scale), halved(widest_coarse(scale)));
+    let more = [
+        highest.clone(),
+        highest.clone().with_capacity(highest.capacity + 1),
+        Profile { margin: lowest.margin + 1, ..lowest.clone() },
+        lowest,
+    ];
+    script(more.into_iter().flat_map(|profile| {
+        let limits = [0, profile.capacity - 1, profile.capacity, profile.capacity + 1];
+        limits.into_iter().flat_map(move |fine| ends(&Profile { fine, ..profile.clone() }, scale.unit)).collect::<Vec<_>>()
+    }))
+}
+
+/// Fine limits at both ends, and at and beside a coarse step and half a one.
+pub fn limits_of(profile: &Profile, scale: Scale) -> Vec<u32> {
+    let coarse = scale.in_range(Range::Coarse);
+    let (above, below) = (i128::from(coarse.step) * coarse.unit.nanograms(), 1000 * ten_to(coarse.decimals.into()));
+    let halves = 2 * steps_in(i128::from(profile.capacity) / 3, coarse);
+    let micrograms = |halves: i128| ((halves * above + below) / (2 * below)) as u32;
+    let (step, half) = (micrograms(halves), micrograms(halves + 1));
+    let most = profile.capacity - 1;
+    let mut limits = [0, 1, step.max(1) - 1, step, half, most].map(|limit| limit.min(most)).to_vec();
+    limits.sort();
+    limits.dedup();
+    limits
+}
+
+/// Loads beside each limit: read, tared by T and TI, with a tare under them and a little above them, and with another zero.
+fn around_limits(scale: Scale) -> Script {
+    let profile = widest_coarse(scale);
+    let profile = Profile { zeroing: profile.capacity, ..profile };
+    let coarse = scale.in_range(Range::Coarse);
+    let step = i128::from(coarse.step) * coarse.unit.nanograms() / (1000 * ten_to(coarse.decimals.into()));
+    script(limits_of(&profile, scale).into_iter().flat_map(move |fine| {
+        let limit = i128::from(fine);
+        let beside = [limit - 1, limit, limit + 1, limit + step / 2, limit + step, i128::from(profile.capacity)];
+        let read = beside.into_iter().flat_map(|load| {
+            let load = load.min(profile.capacity.into());
+            [format!("s {load}"), "> SI".into(), "> T".into(), format!("u {load}"), "> TI".into(), "> TA".into(), "> SI".into()]
+        });
+        let then_read = |load: i128| [format!("s {}", load.min(profile.capacity.into())), "> SI".to_string(), "> TA".to_string()];
+        let above = [0, 1, step / 2 - 1, step / 2, step].into_iter().flat_map(|more| then_read(limit + 1 + more));
+        let below = [step, step / 2 + 1, step / 2, 1].into_iter().flat_map(|less| then_read(limit + step - less));
+        let tare = |load: i128| ["> TAC".to_string(), format!("s {load}"), "> T".to_string()];
+        let zero =
+            ["s 7".to_string(), "> Z".to_string()].into_iter().chain([7, 8].into_iter().flat_map(|load| then_read(limit + load)));
+        let start = started(&Profile { fine, ..profile.clone() }, scale.unit).into_iter().chain(read);
+        start.chain(tare(limit)).chain(above).chain(tare(limit + step)).chain(below).chain(zero).collect::<Vec<_>>()
+    }))
+}
+
+/// Typed numbers at each limit, C too, at steps and half steps of both ranges beside it, and in the last place that can be typed; and
+/// what SR makes of the last of these.
+fn typed_around_limits(scale: Scale) -> Script {
+    let profile = widest_coarse(scale);
+    script(limits_of(&profile, scale).into_iter().chain([profile.capacity]).flat_map(move |fine| {
+        let in_halves = |range: Range| {
+            let ranged = scale.in_range(range);
+            let halves = 2 * steps_in(fine.into(), ranged);
+            ((halves - 1).max(0)..=halves + 2).flat_map(move |halves| typed_halves(halves, ranged))
+        };
+        let exact = (4..7u8).flat_map(|decimals| {
+            let number = i128::from(fine) * 1000 * ten_to(decimals.into()) / scale.unit.nanograms();
+            [number, number + 1].map(|number| number_text(number, decimals, false))
+        });
+        let mut numbers: Vec<String> = in_halves(Range::Fine).chain(in_halves(Range::Coarse)).chain(exact).collect();
+        numbers.sort();
+        numbers.dedup();
+        let thresholds =
+            numbers[numbers.len() - 3..].iter().flat_map(|number| [typed_line("SR", number, scale), "> @".to_string()]);
+        let typed = numbers.iter().map(|number| typed_line("TA", number, scale)).chain(thresholds);
+        started(&Profile { fine, ..profile.clone() }, scale.unit).into_iter().chain(typed).collect::<Vec<_>>()
+    }))
+}
+
+/// SR counts fine steps whatever the range.
+fn coarse_changes(scale: Scale) -> Script {
+    let profile = halved(widest_coarse(scale));
+    let meet = 8 * least_change(0, None, scale);
+    let nets = [0, 1, meet, i128::from(profile.capacity) / 9 * 8];
+    let capacity = profile.capacity;
+    script([0, capacity / 2].into_iter().flat_map(move |fine| {
+        let start = started(&Profile { fine, ..profile.clone() }, scale.unit);
+        start.into_iter().chain(nets.into_iter().flat_map(|net| changes_from(net, scale))).collect::<Vec<_>>()
+    }))
+}
+
+/// One unit with 0 to 3 decimals, with a coarse range and without, while it is in force and while another is.
+fn coarse_decimals(unit: Unit) -> Script {
+    let other = if unit == Unit::Gram { Unit::Carat } else { Unit::Gram };
+    let base = widest_coarse(Scale { unit: other, decimals: 2, step: 1 }).with_capacity(50_000_000);
+    let set = |decimals: u8, fine: u32| {
+        let sent = [format!("unit {} {decimals} 1", unit.name()), format!("fine {fine}"), "s 50000000".into(), "on".into()];
+        sent.into_iter().chain(["> SI", "w 53 49 0D 0A", "fine 0"].map(String::from)).chain([format!("unit {} 2 1", unit.name())])
+    };
+    let each =
+        (0..4).flat_map(|decimals| [0, 49_999_999, 50_000_000, 50_000_001].into_iter().flat_map(move |fine| set(decimals, fine)));
+    let each: Vec<String> = each.collect();
+    let of = |unit| started(&base, unit).into_iter().chain(each.clone());
+    script(of(other).chain(of(unit)))
+}
+
+/// What `fine` takes, and which lines leave F.
+fn limit_lines() -> Script {
+    let words = ["0", "1", "219999999", "220000000", "220000001", "4294967295", "4294967296", "9999999999", "0000000001"];
+    let odd = ["", " ", "-1", "+1", "1 ", " 1", "1 1", "1.0", "x", "00000000001", "1\r"];
+    let taken = words.into_iter().chain(odd).flat_map(|word| {
+        let set = format!("fine {word}");
+        ["fine 220000000".to_string(), set, "s 219999999".to_string(), "> SI".to_string(), "on".to_string()]
+    });
+    let left = ["unit ct 3 1", "text 2 x", "room 384", "on", "# fine 5", "profile 220000000 1000000 4400000 3"];
+    let left = left.into_iter().flat_map(|line| {
+        ["fine 100000000", "on", "s 150000000", line, "> SI", "fine 100000000", "> SI", "unit ct 2 1"].map(String::from)
+    });
+    script(taken.chain(left))
 }
 
 // Lines.
@@ -554,7 +704,7 @@ fn buffer_refusals() -> Script {
 
 // Captures.
 
-const GOOD: [&[u8]; 18] = [
+const GOOD: [&[u8]; 22] = [
     b"S S    14.2561 g\r\n",
     b"S D -0.000001 ozt\r\n",
     b"TA A          0 GN\r\n",
@@ -573,13 +723,41 @@ const GOOD: [&[u8]; 18] = [
     b"M21 A 0 5\r\n",
     b"M21 A 0 11\r\n",
     b"I0 A 2 \"M21\"\r\n",
+    b"S S   150.000  g\r\n",
+    b"S D -999999.9  mg\r\n",
+    b"TA A 999.99999  lb\r\n",
+    b"TI D    0.0100  dwt\r\n",
 ];
 
 /// Each byte of good lines set to each value, left out and doubled; and every name with every status.
 pub fn captures() -> Vec<Script> {
     let mut captures: Vec<Script> = GOOD.iter().map(|line| damaged(line)).collect();
-    captures.extend([statuses(), units()]);
+    captures.extend([statuses(), units(), fields()]);
     captures
+}
+
+/// Numbers of every length, sign and count of decimals before none, one and two spaces in a field of eight to twelve characters.
+fn fields() -> Script {
+    let numbers = (0..8u8).flat_map(|decimals| {
+        let nines = (1..11).map(ten_to).flat_map(|power| [power - 1, power]);
+        let values = nines.chain([0, 1]).flat_map(|value| [value, -value]);
+        values.flat_map(move |value| [value < 0, true].map(|minus| number_text(value, decimals, minus)))
+    });
+    let lines = numbers.filter(|number| number.len() <= 12).flat_map(|number| {
+        let heads = ["S S", "S D", "T S", "TI S", "TI D", "TA A"];
+        let spaced = heads.into_iter().flat_map({
+            let number = number.clone();
+            move |head| ["", " "].map(|space| format!("{head} {number:>0$}{space} g", 10 - space.len()))
+        });
+        let odd = [
+            format!("S S {number:>8}   g"),
+            format!("S S {number:>9} g"),
+            format!("S S {number:>10}  g"),
+            format!("S S {number:<10} g"),
+        ];
+        spaced.chain(odd).collect::<Vec<_>>()
+    });
+    lines.map(|line| format!("{line}\r\n").into_bytes()).collect()
 }
 
 /// What M21 may answer with numbers of up to three digits, and weights in names of up to three letters.

@@ -2,7 +2,7 @@
 
 use crate::faults::Fault;
 use crate::profile::Profile;
-use crate::weight::{ten_to, typed_number, Scale, Unit};
+use crate::weight::{ten_to, typed_number, Range, Scale, Unit};
 
 /// Femtograms in a microgram.
 pub const MICROGRAM: i128 = 1_000_000_000;
@@ -159,15 +159,15 @@ impl Tally {
         } else if begins(answer, &["TA A"]) {
             let line: Vec<u8> = ended.ok_or("TA A without a line")?.iter().map(|(byte, _)| *byte).collect();
             if line != b"TA" {
-                let read = if self.has(Fault::TallyReadsAnswer) { self.told(answer) } else { self.typed_tare(&line) };
+                let read = if self.has(Fault::TallyReadsAnswer) { self.told(answer) } else { self.typed_tare(&line, answer) };
                 self.set_tare(read.ok_or("TA A to a line without a number")?, true);
             }
         }
         Ok(())
     }
 
-    /// The number in the line at the nearest display step, a tie upwards, and not rounded to micrograms.
-    fn typed_tare(&self, line: &[u8]) -> Option<i128> {
+    /// The number in the line at the nearest display step of its range, a tie upwards, and not rounded to micrograms.
+    fn typed_tare(&self, line: &[u8], answer: &[u8]) -> Option<i128> {
         let number = line.strip_prefix(b"TA ")?.split(|&byte| byte == b' ').next()?;
         let (digits, decimals) = typed_number(number, None)?;
         let scale = match self.fault {
@@ -176,10 +176,8 @@ impl Tally {
         };
         let typed = digits * ten_to(6 - decimals) * scale.unit.nanograms();
         let last_place = Scale { step: 1, ..scale };
-        let step = display_step(if self.has(Fault::TallyStepIgnored) { last_place } else { scale });
-        let (below, rest) = (typed - typed % step, typed % step);
-        let up = 2 * rest > step || (2 * rest == step && !self.has(Fault::TallyTieDownwards));
-        let rounded = if up { below + step } else { below };
+        let stepped = if self.has(Fault::TallyStepIgnored) { last_place } else { scale };
+        let rounded = self.to_step(typed, stepped.in_range(self.typed_range(typed, stepped, answer)));
         match self.fault {
             Some(Fault::TallyReadsUnrounded) => Some(typed),
             Some(Fault::TallyRoundsToMicrogram) => Some(to_microgram(rounded)),
@@ -187,9 +185,80 @@ impl Tally {
         }
     }
 
+    /// The nearest display step of a weight, a tie upwards.
+    fn to_step(&self, weight: i128, scale: Scale) -> i128 {
+        let step = display_step(scale);
+        let (below, rest) = (weight - weight % step, weight % step);
+        let up = 2 * rest > step || (2 * rest == step && !self.has(Fault::TallyTieDownwards));
+        if up {
+            below + step
+        } else {
+            below
+        }
+    }
+
+    /// F in femtograms.
+    fn limit(&self) -> i128 {
+        i128::from(self.profile.fine) * MICROGRAM
+    }
+
+    /// The range of a typed number: the number itself is compared with F, and only where F is below C.
+    fn typed_range(&self, typed: i128, scale: Scale, answer: &[u8]) -> Range {
+        let above = match self.fault {
+            Some(Fault::TallyTypedFine) => false,
+            Some(Fault::TallyTypedCoarse) => true,
+            Some(Fault::TallyTypedAtLimitCoarse) => typed >= self.limit(),
+            Some(Fault::TallyTypedAfterRounding) => self.to_step(typed, scale) > self.limit(),
+            Some(Fault::TallyTypedInMicrograms) => to_microgram(typed) > self.limit(),
+            Some(Fault::TallyTypedBySpace) => has_space(answer),
+            _ => typed > self.limit(),
+        };
+        let beside = self.profile.has_coarse_range() || self.has(Fault::TallyTypedWithoutRange);
+        if above && beside {
+            Range::Coarse
+        } else {
+            Range::Fine
+        }
+    }
+
+    /// The range in force at a weight answer, which its space does not decide. After `S S` and `S D` the latest load less zero is
+    /// compared with F, after the others the tare as the module keeps it, to the microgram.
+    fn range(&self, reading: bool, answer: &[u8]) -> Result<Range, String> {
+        let gross = || self.latest().map(|load| load - self.zero);
+        let kept = match self.fault {
+            Some(Fault::TallyRangeByUnroundedTare) => self.tare,
+            Some(Fault::TallyRangeTieDownwards) => to_microgram(self.tare - 1),
+            _ => to_microgram(self.tare),
+        };
+        let deciding = match (self.fault, reading) {
+            (Some(Fault::TallyRangeByNet), true) => gross()? - kept,
+            (Some(Fault::TallyRangeByLoad), true) => self.latest()?,
+            (Some(Fault::TallyRangeByGross), false) if self.load.is_some() => gross()?,
+            (_, true) => gross()?,
+            (_, false) => kept,
+        };
+        let above = match self.fault {
+            Some(Fault::TallyTrustsSpace) => has_space(answer),
+            Some(Fault::TallyAtLimitCoarse) => deciding >= self.limit(),
+            _ => deciding > self.limit(),
+        };
+        Ok(if above { Range::Coarse } else { Range::Fine })
+    }
+
+    /// A space is the tenth character in the coarse range, and in no other.
+    fn space_stands_right(&self, range: Range, answer: &[u8]) -> bool {
+        match (self.fault, range) {
+            (Some(Fault::TallyIgnoresSpace), _) => true,
+            (Some(Fault::TallyAllowsSpace), Range::Fine) => true,
+            (Some(Fault::TallyAllowsNoSpace), Range::Coarse) => true,
+            _ => has_space(answer) == (range == Range::Coarse),
+        }
+    }
+
     /// Number and exact weight differ by at most half a step, and half a microgram if the tare is typed.
     fn compare(&self, answer: &[u8]) -> Result<(), String> {
-        let exact = if begins(answer, &["S S ", "S D "]) {
+        let reading = begins(answer, &["S S ", "S D "]);
+        let exact = if reading {
             self.latest()? - self.zero - self.tare
         } else if begins(answer, &["T S ", "TI S ", "TI D ", "TA A "]) {
             self.tare
@@ -199,9 +268,18 @@ impl Tally {
         if !answer.ends_with(format!(" {}\r\n", self.scale().unit.name()).as_bytes()) {
             return Err(format!("{:?} is in force, {} was told", self.scale().unit, answer.escape_ascii()));
         }
+        let range = self.range(reading, answer)?;
+        if !self.space_stands_right(range, answer) {
+            return Err(format!("{range:?} is in force, {} was told", answer.escape_ascii()));
+        }
         let number = self.told(answer).ok_or("a weight answer without a number")?;
         let half = if self.has(Fault::TallyAllowsMicrogram) { MICROGRAM } else { MICROGRAM / 2 };
-        let allowed = display_step(self.scale()) + if self.typed { 2 * half } else { 0 };
+        let halved = match self.fault {
+            Some(Fault::TallyHalvesFineStep) => Range::Fine,
+            Some(Fault::TallyHalvesCoarseStep) if self.profile.has_coarse_range() => Range::Coarse,
+            _ => range,
+        };
+        let allowed = display_step(self.scale().in_range(halved)) + if self.typed { 2 * half } else { 0 };
         if 2 * (number - exact).abs() > allowed {
             return Err(format!("{number} fg told, {exact} fg exact, twice the difference may be {allowed}"));
         }
@@ -210,8 +288,7 @@ impl Tally {
 
     /// The ten characters, spaces left out, as a decimal x unit.
     fn told(&self, answer: &[u8]) -> Option<i128> {
-        let start = answer.iter().position(|&byte| byte == b' ')? + 3;
-        let field = answer.get(start..start + 10)?;
+        let field = field(answer)?;
         let text: Vec<u8> = field.iter().copied().filter(|&byte| byte != b' ').collect();
         let (sign, size) = match text.strip_prefix(b"-") {
             Some(size) => (-1, size),
@@ -227,9 +304,20 @@ pub fn display_step(scale: Scale) -> i128 {
     i128::from(scale.step) * scale.unit.nanograms() * ten_to(6 - u32::from(scale.decimals))
 }
 
-/// The nearest microgram of a weight that is not negative, a tie upwards.
+/// The nearest microgram of a weight, a tie upwards.
 fn to_microgram(weight: i128) -> i128 {
-    (2 * weight + MICROGRAM) / (2 * MICROGRAM) * MICROGRAM
+    (2 * weight + MICROGRAM).div_euclid(2 * MICROGRAM) * MICROGRAM
+}
+
+/// The ten characters of a weight answer.
+fn field(answer: &[u8]) -> Option<&[u8]> {
+    let start = answer.iter().position(|&byte| byte == b' ')? + 3;
+    answer.get(start..start + 10)
+}
+
+/// Whether the tenth of them is a space.
+pub fn has_space(answer: &[u8]) -> bool {
+    field(answer).is_some_and(|field| field[9] == b' ')
 }
 
 fn begins(answer: &[u8], beginnings: &[&str]) -> bool {

@@ -119,6 +119,24 @@ pub struct Scale {
     pub step: u8,
 }
 
+/// The two ranges of a DeltaRange cell (document 02, No. 7).
+#[derive(Clone, Copy, Debug, Default, PartialEq, Eq)]
+pub enum Range {
+    #[default]
+    Fine,
+    Coarse,
+}
+
+impl Scale {
+    /// What is printed in a range. In the coarse one the last place is left out, which makes the step ten times larger.
+    pub fn in_range(self, range: Range) -> Scale {
+        match range {
+            Range::Fine => self,
+            Range::Coarse => Scale { decimals: self.decimals.saturating_sub(1), ..self },
+        }
+    }
+}
+
 /// net x 1,000 x 10^d / unit, to the nearest multiple of k, a tie away from zero; counted in last places.
 pub fn last_places(net: i128, scale: Scale, fault: Option<Fault>) -> i128 {
     let net = if fault == Some(Fault::RoundedTwice) { (net + 50).div_euclid(100) * 100 } else { net };
@@ -158,21 +176,69 @@ pub fn printed(net: i128, scale: Scale, fault: Option<Fault>) -> String {
     number_text(places, scale.decimals, minus)
 }
 
-/// Whether that is ten characters or fewer. Up to seven decimals, the zero before the point and a minus never are more.
+/// Whether that is ten characters or fewer.
 pub fn fits(net: i128, scale: Scale, fault: Option<Fault>) -> bool {
+    fits_in(10, net, scale, fault)
+}
+
+/// Whether it leaves a place for the space in the coarse range of this scale.
+pub fn fits_coarse(net: i128, scale: Scale, fault: Option<Fault>) -> bool {
+    let room = if fault == Some(Fault::CoarseFitsTen) { 10 } else { 9 };
+    fits_in(room, net, scale.in_range(Range::Coarse), fault)
+}
+
+/// Up to seven decimals, the zero before the point and a minus never are more.
+fn fits_in(room: u32, net: i128, scale: Scale, fault: Option<Fault>) -> bool {
     let places = last_places(net, scale, fault);
-    let digits = 10 - u32::from(scale.decimals > 0) - u32::from(places < 0);
+    let digits = room - u32::from(scale.decimals > 0) - u32::from(places < 0);
     places.abs() < ten_to(digits)
 }
 
-/// The ten characters and the unit.
-pub fn weight_text(net: i128, scale: Scale, fault: Option<Fault>) -> String {
-    let number = printed(net, scale, fault);
+/// The ten characters and the unit, in a range of this scale.
+pub fn weight_text(net: i128, scale: Scale, range: Range, fault: Option<Fault>) -> String {
     let unit = if fault == Some(Fault::UnitTextOfGrams) { "g" } else { scale.unit.name() };
+    if range == Range::Coarse {
+        return format!("{} {unit}", coarse_field(net, scale, fault));
+    }
+    let number = printed(net, scale, fault);
     if fault == Some(Fault::LeftAligned) {
         return format!("{number:<10} {unit}");
     }
     format!("{number:>10} {unit}")
+}
+
+/// The ten characters in the coarse range: the number in nine, and a space in the last decimal place.
+fn coarse_field(net: i128, scale: Scale, fault: Option<Fault>) -> String {
+    let places = coarse_places(net, scale, fault);
+    let minus_zero = matches!(fault, Some(Fault::MinusZeroPrinted | Fault::CoarseMinusZeroPrinted));
+    let minus = places < 0 || (minus_zero && net < 0);
+    let decimals = match fault {
+        Some(Fault::CoarsePointMisplaced) => scale.decimals,
+        _ => scale.in_range(Range::Coarse).decimals,
+    };
+    let number = number_text(places, decimals, minus);
+    match fault {
+        Some(Fault::CoarseSpaceBefore) => format!("{number:>10}"),
+        Some(Fault::CoarseZeroPrinted) => format!("{number:>9}0"),
+        Some(Fault::CoarseFieldOneShort) => format!("{number:>9}"),
+        Some(Fault::LeftAligned | Fault::CoarseLeftAligned) => format!("{number:<10}"),
+        _ => format!("{number:>9} "),
+    }
+}
+
+/// One rounding from the exact net, as in the fine range, save for faults.
+fn coarse_places(net: i128, scale: Scale, fault: Option<Fault>) -> i128 {
+    let coarse = scale.in_range(Range::Coarse);
+    let k = i128::from(scale.step);
+    let fine = || last_places(net, scale, fault);
+    match fault {
+        Some(Fault::CoarseFineFirst) => fine().signum() * nearest(fine().abs(), 10 * k, fault) * k,
+        Some(Fault::CoarseLastDigitDropped) => fine() / 10,
+        Some(Fault::CoarseStepOfOne) => last_places(net, Scale { step: 1, ..coarse }, fault),
+        Some(Fault::CoarseTieTowardsZero) => last_places(net, coarse, Some(Fault::TieTowardsZero)),
+        Some(Fault::CoarseRoundedDown) => last_places(net, coarse, Some(Fault::RoundedTowardsZero)),
+        _ => last_places(net, coarse, fault),
+    }
 }
 
 /// A typed number: its digits as a whole number, and how many of them are decimals.
@@ -222,7 +288,7 @@ pub fn typed_micrograms(text: &[u8], scale: Scale, fault: Option<Fault>) -> Opti
 }
 
 /// TA's number to the nearest display step, a tie upwards; counted in last places.
-fn typed_places(text: &[u8], scale: Scale, fault: Option<Fault>) -> Option<i128> {
+pub fn typed_places(text: &[u8], scale: Scale, fault: Option<Fault>) -> Option<i128> {
     if fault == Some(Fault::TypedMicrogramFirst) {
         return Some(last_places(typed_micrograms(text, scale, None)?, scale, None));
     }
@@ -239,8 +305,8 @@ fn typed_places(text: &[u8], scale: Scale, fault: Option<Fault>) -> Option<i128>
     Some(nearest_upwards(places, below, fault, Fault::TypedFirstTieDownwards, Fault::TypedFirstCut) * k)
 }
 
-/// A typed tare in micrograms (document 02, No. 3): the number to the nearest display step, and that decimal to the nearest
-/// microgram, a tie upwards in both.
+/// A typed tare in micrograms (document 02, No. 3): the number to the nearest display step of its range's scale, and that decimal to
+/// the nearest microgram, a tie upwards in both.
 pub fn typed_tare(text: &[u8], scale: Scale, fault: Option<Fault>) -> Option<i128> {
     if fault == Some(Fault::TypedRoundedOnce) {
         return typed_micrograms(text, scale, fault);
@@ -248,6 +314,13 @@ pub fn typed_tare(text: &[u8], scale: Scale, fault: Option<Fault>) -> Option<i12
     let nanograms = typed_places(text, scale, fault)? * scale.unit.weighed(fault);
     let below = 1000 * ten_to(scale.decimals.into());
     Some(nearest_upwards(nanograms, below, fault, Fault::TypedSecondTieDownwards, Fault::TypedSecondCut))
+}
+
+/// Whether a typed number, exact and not rounded at all, is above a weight in micrograms; or at it, for the fault that asks so.
+pub fn typed_is_above(text: &[u8], scale: Scale, micrograms: u32, fault: Option<Fault>) -> Option<bool> {
+    let (number, decimals) = typed_number(text, fault)?;
+    let (typed, limit) = (number * scale.unit.nanograms(), i128::from(micrograms) * 1000 * ten_to(decimals));
+    Some(typed > limit || (fault == Some(Fault::TypedAtLimitCoarse) && typed == limit))
 }
 
 /// TA's number and what its first rounding makes of it, in micrograms, a part of one counted as one: for the faults that compare

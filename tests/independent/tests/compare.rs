@@ -86,8 +86,8 @@ fn compare_replay(path: &Path, seed: u64, calls: usize) {
     let [granted, one, two, three, _, five] = judge.refusals;
     note(&format!(
         "replay: {} calls the same, {granted} granted, refused {one} with 1, {two} with 2, {three} with 3, {five} with 5; \
-         {} weights judged",
-        judge.calls, judge.weights
+         {} weights judged, {} of them coarse",
+        judge.calls, judge.weights, judge.coarse
     ));
 }
 

@@ -4,7 +4,7 @@ use independent::byte_sweeps::{singly, together};
 use independent::cases::{histories, History};
 use independent::compare::{capture_bytes, difference, script_bytes, shown, Judge, Script};
 use independent::decode::{decode, decode_with};
-use independent::faults::{Fault, OF_THE_MODULE, OF_THE_READER, OF_THE_TABLES, OF_THE_TALLY};
+use independent::faults::{Fault, OF_THE_MODULE, OF_THE_RANGES, OF_THE_READER, OF_THE_TABLES, OF_THE_TALLY};
 use independent::module::Module;
 use independent::random::{capture, script, Rng, MOST_UNSEEN};
 use independent::reader::Reader;
@@ -78,6 +78,41 @@ const JUDGED: &[Fault] = &[
     Fault::UnitRoundsTare,
     Fault::TypedInGrams,
     Fault::TypedToGramStep,
+    Fault::CoarseAtLimit,
+    Fault::CoarseByNet,
+    Fault::CoarseByLoad,
+    Fault::CoarseByTare,
+    Fault::CoarseByGross,
+    Fault::CoarseBySize,
+    Fault::CoarseByPrinted,
+    Fault::CoarseByPrintedCoarse,
+    Fault::NeverCoarse,
+    Fault::CoarseThroughout,
+    Fault::UnstableFine,
+    Fault::QueryFine,
+    Fault::TaringFine,
+    Fault::CoarseInGramsOnly,
+    Fault::CoarseHeld,
+    Fault::AnswerByTypedNumber,
+    Fault::CoarseFineFirst,
+    Fault::CoarseLastDigitDropped,
+    Fault::CoarseRoundedDown,
+    Fault::CoarsePointMisplaced,
+    Fault::CoarseSpaceBefore,
+    Fault::CoarseZeroPrinted,
+    Fault::TypedNeverCoarse,
+    Fault::TypedAlwaysCoarse,
+    Fault::TypedAtLimitCoarse,
+    Fault::TypedComparedInSteps,
+    Fault::TypedComparedInCoarseSteps,
+    Fault::TypedComparedInMicrograms,
+    Fault::TypedStepByGross,
+    Fault::TypedStepByFormerTare,
+    Fault::TypedCoarseWithoutRange,
+    Fault::TypedFineFirst,
+    Fault::TypedCoarseTieDownwards,
+    Fault::TypedCoarseCut,
+    Fault::TypedCoarseStepOfOne,
 ];
 
 /// Faults of send on change that answers show, so that its follower alone has to notice them. A net that is kept at `S D` is none: the
@@ -146,6 +181,9 @@ const FOLLOWED: &[Fault] = &[
     Fault::ThresholdInGrams,
     Fault::ThirtyStepsOfGrams,
     Fault::ThirtyStepsOfStart,
+    Fault::ThresholdRoundedCoarse,
+    Fault::SrCountsCoarseSteps,
+    Fault::CoarseNetKept,
 ];
 
 /// Faults of typed tares, which the sweep of them has to notice too.
@@ -180,6 +218,20 @@ const REJECTING: &[Fault] = &[
     Fault::TallySetsAtBusy,
     Fault::TallyForgetsAtReset,
     Fault::TallySetsOnce,
+    Fault::TallyAtLimitCoarse,
+    Fault::TallyRangeByNet,
+    Fault::TallyRangeByLoad,
+    Fault::TallyRangeByGross,
+    Fault::TallyRangeByUnroundedTare,
+    Fault::TallyRangeTieDownwards,
+    Fault::TallyHalvesFineStep,
+    Fault::TallyTypedFine,
+    Fault::TallyTypedCoarse,
+    Fault::TallyTypedAtLimitCoarse,
+    Fault::TallyTypedAfterRounding,
+    Fault::TallyTypedInMicrograms,
+    Fault::TallyTypedBySpace,
+    Fault::TallyTypedWithoutRange,
 ];
 
 /// Faults of the whole-buffer call that answers, refusals and bytes taken show, so that its bytes taken singly have to notice them.
@@ -333,13 +385,22 @@ fn without_state(script: &[Vec<u8>]) -> Vec<u8> {
     script_bytes(&lines)
 }
 
+/// Those of the module, and those of the reader and the tally that stand after the first of theirs.
+fn is_of_ranges(fault: Fault) -> bool {
+    let after = |list: &[Fault], first: Fault| list.iter().skip_while(|one| **one != first).any(|one| *one == fault);
+    OF_THE_RANGES.contains(&fault) || after(OF_THE_READER, Fault::ReadNoCoarse) || after(OF_THE_TALLY, Fault::TallyTrustsSpace)
+}
+
 #[test]
 fn the_readme_counts_the_faults() {
-    let lists = [OF_THE_MODULE, OF_THE_TABLES, OF_THE_READER, OF_THE_TALLY];
+    let lists = [OF_THE_MODULE, OF_THE_TABLES, OF_THE_RANGES, OF_THE_READER, OF_THE_TALLY];
     let total: usize = lists.iter().map(|list| list.len()).sum();
+    let readme = include_str!("../README.md");
     let said =
         format!("{total} small faults, one at a time, each of which the comparison has to notice; {} of them", lists[1].len());
-    assert!(include_str!("../README.md").contains(&said), "{said}");
+    assert!(readme.contains(&said), "{said}");
+    let of_ranges = lists.concat().iter().filter(|fault| is_of_ranges(**fault)).count();
+    assert!(readme.contains(&format!("and {of_ranges} are of the two ranges")), "{of_ranges}");
 }
 
 #[test]
@@ -347,7 +408,7 @@ fn every_fault_of_the_module_is_noticed() {
     let inputs: Vec<Vec<u8>> = scripts(SCRIPTS).iter().map(|one| script_bytes(one)).collect();
     let told: Vec<Vec<u8>> = inputs.iter().map(|input| replay(input)).collect();
     let mut unnoticed = vec![];
-    for &fault in OF_THE_MODULE {
+    for fault in [OF_THE_MODULE, OF_THE_RANGES].concat() {
         let faulty = |input: &[u8]| replay_with(Module { fault: Some(fault) }, input, &mut |_| {});
         match inputs.iter().zip(&told).position(|(input, told)| faulty(input) != *told) {
             Some(at) => println!("{fault:?}: noticed by script {at}"),
@@ -366,6 +427,19 @@ fn the_sweep_notices_every_fault_of_typed_tares() {
     }
 }
 
+/// By the limits of every scale that a coarse range can have.
+#[test]
+fn the_sweeps_notice_every_fault_of_the_ranges() {
+    let inputs: Vec<Vec<u8>> = sweeps::coarse_scripts().iter().map(|one| script_bytes(one)).collect();
+    let told: Vec<Vec<u8>> = inputs.iter().map(|input| replay(input)).collect();
+    let noticed = |fault: &Fault| {
+        let faulty = |input: &[u8]| replay_with(Module { fault: Some(*fault) }, input, &mut |_| {});
+        inputs.iter().zip(&told).any(|(input, told)| faulty(input) != *told)
+    };
+    let unnoticed: Vec<Fault> = OF_THE_RANGES.iter().copied().filter(|fault| !noticed(fault)).collect();
+    assert_eq!(unnoticed, vec![]);
+}
+
 fn unnoticed_by_cases(faults: &[Fault]) -> Vec<Fault> {
     let cases = independent::cases::all();
     let unnoticed = |fault: &Fault| {
@@ -378,6 +452,21 @@ fn unnoticed_by_cases(faults: &[Fault]) -> Vec<Fault> {
 #[test]
 fn the_cases_notice_every_fault_of_units() {
     assert_eq!(unnoticed_by_cases(OF_UNITS), vec![]);
+}
+
+#[test]
+fn the_cases_notice_every_fault_of_the_ranges() {
+    assert_eq!(unnoticed_by_cases(OF_THE_RANGES), vec![]);
+}
+
+/// By the lines of the cases alone.
+#[test]
+fn the_captures_notice_every_fault_of_coarse_weights() {
+    for &fault in OF_THE_READER.iter().filter(|fault| is_of_ranges(**fault)) {
+        let reader = Reader { fault: Some(fault) };
+        let noticed = |(line, prints): &(&str, &str)| decode_with(reader, line.as_bytes()) != prints.as_bytes();
+        assert!(independent::cases::captures().iter().any(noticed), "{fault:?}");
+    }
 }
 
 #[test]
@@ -495,9 +584,9 @@ fn the_tally_notices_wrong_weights() {
         let judge = judged(None, input);
         assert_eq!((judge.faults, judge.strays, judge.apart), (vec![], vec![], vec![]), "{}", shown(input));
     }
-    for &fault in JUDGED {
-        assert!(inputs.iter().any(|input| !judged(Some(fault), input).faults.is_empty()), "{fault:?}");
-    }
+    let noticed = |fault| inputs.iter().any(|input| !judged(Some(fault), input).faults.is_empty());
+    let unnoticed: Vec<Fault> = JUDGED.iter().copied().filter(|fault| !noticed(*fault)).collect();
+    assert!(unnoticed.is_empty(), "not noticed: {unnoticed:?}");
 }
 
 /// By a constructed history of which it thinks otherwise, and where it rejects too much by the random histories too.

@@ -9,15 +9,16 @@ use independent::faults::Fault;
 use independent::module::{Line, Module, Outcome, Repetition, Sample, State, Wait};
 use independent::on_change::OnChange;
 use independent::profile::{is_text, Profile};
-use independent::random::Rng;
+use independent::random::{script, Rng};
 use independent::reader::{line_of, write, Answer, Reader};
-use independent::replay::replay;
+use independent::replay::{replay, replay_with};
 use independent::sent_on_change::Follower;
 use independent::singly::Singly;
 use independent::sweeps;
 use independent::tally::{Call, Tally};
 use independent::weight::{
-    fits, last_places, number_text, printed, ten_to, typed_number, typed_tare, weight_text, Scale, Unit, UNITS,
+    fits, fits_coarse, last_places, number_text, printed, ten_to, typed_number, typed_tare, weight_text, Range, Scale, Unit,
+    UNITS,
 };
 use std::cell::OnceCell;
 
@@ -531,7 +532,7 @@ fn a_unit_moves_nothing_else() {
 #[test]
 fn each_unit_is_tested_alone() {
     for scale in sweeps::scales() {
-        let profile = Profile { capacity: 1_000, margin: 9, zeroing: 9, ..Profile::a() }.with_scale(scale);
+        let profile = Profile { margin: 9, zeroing: 9, ..Profile::a() }.with_capacity(1_000).with_scale(scale);
         let Scale { unit, decimals, step } = scale;
         let fine = i128::from(step) * unit.nanograms() >= 1000 * ten_to(decimals.into());
         let good = decimals <= 6 && [1, 2, 5].contains(&step) && fine;
@@ -714,6 +715,8 @@ fn what_fits_is_ten_characters() {
             let near = (edge - 9..edge + 9).chain([edge - edge / 1_000_000, edge + edge / 1_000_000]);
             for net in near.flat_map(|net| [net, -net]) {
                 assert_eq!(fits(net, scale, None), printed(net, scale, None).len() <= 10, "{net} of {scale:?}");
+                let coarse = printed(net, scale.in_range(Range::Coarse), None);
+                assert!(scale.decimals < 2 || fits_coarse(net, scale, None) == (coarse.len() <= 9), "{net} of {scale:?}");
             }
         }
     }
@@ -825,6 +828,135 @@ fn ties_of_the_second_rounding() {
     }
 }
 
+// Ranges (document 02, No. 7).
+
+/// net x 1,000 x 10^d / unit to the nearest multiple of 10 k, a tie away from zero: by the rest.
+fn to_ten_steps(net: i128, Scale { unit, decimals, step }: Scale) -> i128 {
+    let ten = 10 * i128::from(step);
+    net.signum() * nearest(net.abs() * 1000 * ten_to(decimals.into()), ten * unit.nanograms()) * ten
+}
+
+/// In every scale that a coarse range can have: the number in the coarse range is that of fine last places without the last, which is a
+/// zero; the field has ten characters, of which a space is the last, as a digit is in the fine range.
+#[test]
+fn the_coarse_field_leaves_the_last_place_out() {
+    let mut rng = Rng::new(7);
+    for scale in sweeps::coarse_scales() {
+        let Profile { capacity, .. } = sweeps::widest_coarse(scale);
+        let step = 10 * i128::from(scale.step) * scale.unit.nanograms() / (1000 * ten_to(scale.decimals.into()));
+        let small = (0..4).flat_map(|halves| (-1..=1).map(move |beside| halves * step / 2 + beside));
+        let any = (0..200).map(|_| i128::from(rng.next()) % (i128::from(capacity) + 1));
+        for net in small.chain(any).chain([capacity.into()]).flat_map(|net| [net, -net]) {
+            let places = to_ten_steps(net, scale);
+            assert_eq!(places, 10 * last_places(net, scale.in_range(Range::Coarse), None), "{net} of {scale:?}");
+            let number = number_text(places, scale.decimals, places < 0);
+            let unit = scale.unit.name();
+            let cut = number.strip_suffix('0').expect("a multiple of ten");
+            assert_eq!(
+                weight_text(net, scale, Range::Coarse, None),
+                format!("{:>10} {unit}", format!("{cut} ")),
+                "{net} of {scale:?}"
+            );
+            for range in [Range::Fine, Range::Coarse] {
+                let text = weight_text(net, scale, range, None);
+                assert_eq!((text.len(), text.as_bytes()[9] == b' '), (11 + unit.len(), range == Range::Coarse), "{text}");
+            }
+        }
+    }
+}
+
+/// Each side of each limit, whichever unit is in force; a refused call leaves state and buffer.
+#[test]
+fn fine_limits_that_are_refused() {
+    let a = Profile::a();
+    let limits = [(0, 0), (1, 0), (219_999_999, 0), (220_000_000, 0), (220_000_001, 1), (u32::MAX, 1)];
+    for ((fine, refusal), unit) in limits.into_iter().flat_map(|limit| UNITS.map(|unit| (limit, unit))) {
+        let state = State { unit, ..State::default() };
+        assert_eq!(refusal_of(&Profile { fine, ..a.clone() }, &state), refusal, "{fine}");
+        for decimals in 0..3 {
+            let fewer = Profile { fine, ..a.clone() }.with_scale(Scale { unit, decimals, step: 1 });
+            let due = u8::from(refusal == 1 || (decimals < 2 && fine < a.capacity));
+            for in_force in UNITS {
+                let state = State { unit: in_force, ..State::default() };
+                assert_eq!(refusal_of(&fewer, &state), due, "{fine} {unit:?} {decimals}");
+            }
+            assert_eq!(MODULE.power_on(&fewer, &mut State::default(), &mut [0; 384]).refusal, due, "{fine} {unit:?} {decimals}");
+        }
+    }
+}
+
+/// The widest capacity beside a coarse range and one more. What fits coarse fits fine, and the lower end decides.
+#[test]
+fn the_lower_end_decides_what_fits_coarse() {
+    let mut drawn_in = 0;
+    for scale in sweeps::coarse_scales() {
+        let widest = sweeps::widest_coarse(scale);
+        let no_range = Profile { fine: widest.capacity, ..widest.clone() };
+        assert!(!widest.is_refused(None) && !no_range.is_refused(None), "{scale:?}");
+        let wider = widest.clone().with_capacity(widest.capacity + 1);
+        assert!(wider.is_refused(None), "{scale:?}");
+        let just_below = Profile { fine: wider.capacity - 1, ..wider.clone() };
+        assert!(just_below.is_refused(None), "{scale:?}");
+        drawn_in += usize::from(!Profile { fine: wider.capacity, ..wider }.is_refused(None));
+        let edge = i128::from(widest.capacity);
+        for net in (edge - 40..edge + 40).chain([edge / 2, 2 * edge]) {
+            let lower = fits_coarse(-net, scale, None);
+            assert!(
+                !lower || (fits_coarse(net, scale, None) && fits(-net, scale, None) && fits(net, scale, None)),
+                "{net} {scale:?}"
+            );
+        }
+    }
+    assert!(drawn_in > 20, "the coarse range alone refuses {drawn_in} of them");
+}
+
+/// Tare and answer of typed numbers beside each limit, by the rule: the number itself decides the step, the stored tare the range.
+#[test]
+fn the_number_decides_the_step_and_the_tare_the_answer() {
+    for scale in sweeps::coarse_scales() {
+        let widest = sweeps::widest_coarse(scale);
+        for fine in sweeps::limits_of(&widest, scale).into_iter().chain([widest.capacity]) {
+            let profile = Profile { fine, ..widest.clone() };
+            let (unit, limit) = (scale.unit.name(), i128::from(fine));
+            for decimals in 0..7u8 {
+                let at = limit * 1000 * ten_to(decimals.into()) / scale.unit.nanograms();
+                for number in [at - 1, at, at + 1, at + 4, at + 5, at + 49, at + 50].into_iter().filter(|number| *number >= 0) {
+                    let text = number_text(number, decimals, false);
+                    if text.len() > 10 {
+                        continue;
+                    }
+                    let above = number * scale.unit.nanograms() > limit * 1000 * ten_to(decimals.into());
+                    let range = if above && fine < profile.capacity { Range::Coarse } else { Range::Fine };
+                    let (_, tare) = both_roundings(&text, scale.in_range(range));
+                    let told = answered(&profile, scale.unit, &format!("TA {text} {unit}"));
+                    if tare > profile.capacity.into() {
+                        assert_eq!((told.0.as_str(), told.1.tare), ("TA L\r\n", 1), "{text} on {profile:?}");
+                        continue;
+                    }
+                    let weight = weight_text(tare, scale, if tare > limit { Range::Coarse } else { Range::Fine }, None);
+                    assert_eq!((told.0, i128::from(told.1.tare)), (format!("TA A {weight}\r\n"), tare), "{text} on {profile:?}");
+                }
+            }
+        }
+    }
+}
+
+/// Random histories: where F = C no weight is coarse, and where F < C both ranges are met often.
+#[test]
+fn without_a_coarse_range_no_weight_is_coarse() {
+    let (mut rng, mut met) = (Rng::new(5), [[0; 2]; 2]);
+    for _ in 0..300 {
+        let script = script_bytes(&script(&mut rng));
+        replay_with(MODULE, &script, &mut |event| {
+            if let Some(Answer::Weight { range, .. }) = Reader::default().read(event.answer) {
+                met[usize::from(event.profile.has_coarse_range())][usize::from(range == Range::Coarse)] += 1;
+            }
+        });
+    }
+    let [[old, none], [fine, coarse]] = met;
+    assert!(none == 0 && old > 400 && fine > 400 && coarse > 400, "{met:?}");
+}
+
 // The tally.
 
 fn tallied(history: &[(&str, &str)]) -> Result<(), String> {
@@ -853,7 +985,7 @@ fn the_tally_follows_zero_and_tare() {
 }
 
 #[test]
-fn the_tally_reads_a_typed_tare_as_it_is_rounded() {
+fn the_tally_thinks_of_each_history_as_said() {
     for history in cases::histories() {
         let told = Tally::new(&history.profile()).take_lines(&history.calls);
         assert_eq!(told.is_ok(), history.accepted, "{}: {told:?}", history.name);
@@ -870,7 +1002,7 @@ fn the_tally_reads_a_typed_tare_as_it_is_rounded() {
 fn the_tally_reads_with_the_unit_in_force() {
     for (unit, other) in UNITS.into_iter().flat_map(|unit| UNITS.map(|other| (unit, other))) {
         let load = (unit.nanograms() / 100_000).min(200_000_000);
-        let number = weight_text(load, Profile::a().scale(unit), None);
+        let number = weight_text(load, Profile::a().scale(unit), Range::Fine, None);
         let (line, load, answer) = (format!("M21 0 {}", other.code()), load.to_string(), format!("S S {number}"));
         let set = |line: &str, told: &str| tallied(&[(line, told), (&load, ""), ("SI", &answer)]).is_ok();
         assert_eq!(set(&line, "M21 A"), unit == other, "{unit:?} {other:?}");
@@ -931,8 +1063,8 @@ fn the_tally_takes_a_whole_buffer_by_its_bytes() {
 // The follower of SR.
 
 /// Feeds lines and samples (`s` or `u` and a load), with the answer to the last byte or sample of each; "" is none.
-fn followed(history: &[(&str, &str)]) -> Result<(), String> {
-    let mut follower = Follower::new(&Profile::a());
+fn followed_on(profile: &Profile, history: &[(&str, &str)]) -> Result<(), String> {
+    let mut follower = Follower::new(profile);
     for (line, answer) in history {
         let ended = if answer.is_empty() { String::new() } else { format!("{answer}\r\n") };
         if let Some((mark @ ("s" | "u"), load)) = line.split_once(' ') {
@@ -950,11 +1082,15 @@ fn followed(history: &[(&str, &str)]) -> Result<(), String> {
 
 /// A history is followed, and is rejected with its last answer changed to any other.
 fn only_last_answer(history: &[(&str, &str)], others: &[&str]) {
-    assert_eq!(followed(history), Ok(()), "{history:?}");
+    only_last_answer_on(&Profile::a(), history, others);
+}
+
+fn only_last_answer_on(profile: &Profile, history: &[(&str, &str)], others: &[&str]) {
+    assert_eq!(followed_on(profile, history), Ok(()), "{history:?}");
     let (last, before) = history.split_last().expect("a call");
     for other in others {
         let changed = [before, &[(last.0, *other)]].concat();
-        assert!(followed(&changed).is_err(), "{changed:?}");
+        assert!(followed_on(profile, &changed).is_err(), "{changed:?}");
     }
 }
 
@@ -1076,6 +1212,27 @@ fn the_follower_takes_the_unit_in_force() {
     only_last_answer(&[carats, ("s 0", ""), ("SR 0.05 ct", "S S       0.00 ct"), ("s 10000", "S S       0.05 ct")], &[""]);
 }
 
+/// The 30 steps are fine ones in the coarse range too, and a set threshold is rounded to no step.
+#[test]
+fn the_follower_counts_fine_steps() {
+    let coarse = Profile { fine: 0, ..Profile::a() };
+    let after = |calls: &[(&'static str, &'static str)], others: &[&str]| {
+        only_last_answer_on(&coarse, &[&STARTED[..], calls].concat(), others);
+    };
+    after(&[("s 2999", "")], &["S S     0.003  g"]);
+    after(&[("s 3000", "S S     0.003  g")], &[""]);
+    after(&[("s 1", "")], &["S S     0.000  g"]);
+    // The exact net is kept: 3,450 and not 3,000.
+    after(&[("s 3450", "S S     0.003  g"), ("s 6449", "")], &["S S     0.006  g"]);
+    after(&[("s 3450", "S S     0.003  g"), ("s 6450", "S S     0.006  g")], &[""]);
+    let set = |line| [("s 0", ""), (line, ZERO)];
+    only_last_answer_on(&coarse, &[&set("SR 0.001449 g")[..], &[("s 1448", "")]].concat(), &["S S     0.001  g"]);
+    only_last_answer_on(&coarse, &[&set("SR 0.001449 g")[..], &[("s 1449", "S S     0.001  g")]].concat(), &[""]);
+    // A typed tare above F is the coarse decimal: 0.004 g in place of 0.0036 g.
+    after(&[("TA 0.0036 g", "TA A     0.004  g"), ("s 1000", "S S    -0.003  g")], &[""]);
+    after(&[("TA 0.0034 g", "TA A     0.003  g"), ("s 1", "")], &["S S    -0.003  g"]);
+}
+
 /// A whole buffer is the bytes that it took: no other, and each with its answer.
 #[test]
 fn the_follower_takes_a_whole_buffer_by_its_bytes() {
@@ -1122,6 +1279,52 @@ fn what_is_read_is_written_back() {
     }
 }
 
+/// Both inverse laws on coarse weights: in all six forms, at both sides of each limit.
+#[test]
+fn coarse_weights_are_written_and_read() {
+    let forms = [("S", 'S'), ("S", 'D'), ("T", 'S'), ("TI", 'S'), ("TI", 'D'), ("TA", 'A')];
+    let values = [0, 1, 99_999_999, 100_000_000, -1, -9_999_999, -10_000_000, i64::MAX, i64::MIN + 1];
+    for ((identification, status), value) in forms.into_iter().flat_map(|form| values.map(|value| (form, value))) {
+        for (decimals, unit) in (0..8).flat_map(|decimals| UNITS.map(|unit| (decimals, unit))) {
+            let range = Range::Coarse;
+            let answer = Answer::Weight { identification: identification.to_string(), status, value, decimals, unit, range };
+            let good = (1..=5).contains(&decimals)
+                && (-9_999_999..=99_999_999).contains(&value)
+                && (value >= 0 || identification == "S");
+            let line = line_of(&answer);
+            assert_eq!(line.is_some(), good, "{answer:?}");
+            let mut buffer = [7; 24];
+            let outcome = write(&answer, &mut buffer);
+            assert_eq!(
+                (outcome.refusal, outcome.n),
+                if good { (0, line.as_ref().map_or(0, Vec::len)) } else { (4, 0) },
+                "{answer:?}"
+            );
+            assert!(good || buffer == [7; 24]);
+            if let Some(line) = line {
+                assert_eq!(line[identification.len() + 12..][..2], *b"  ", "two spaces before the unit");
+                assert_eq!(write(&answer, &mut buffer[..line.len() - 1]), Outcome { refusal: 3, n: 0 });
+                assert_eq!(Reader::default().read(&line), Some(answer));
+            }
+        }
+    }
+}
+
+/// The two spaces before the unit are the whole of the difference: a number of nine characters is one or the other.
+#[test]
+fn a_space_tells_coarse_from_fine() {
+    let read = |line: &str| match Reader::default().read(line.as_bytes()) {
+        Some(Answer::Weight { value, decimals, range, .. }) => Some((value, decimals, range)),
+        _ => None,
+    };
+    assert_eq!(read("S S   150.000  g\r\n"), Some((150_000, 3, Range::Coarse)));
+    assert_eq!(read("S S    150.000 g\r\n"), Some((150_000, 3, Range::Fine)));
+    assert_eq!(read("S S   150.0000 g\r\n"), Some((1_500_000, 4, Range::Fine)));
+    assert_eq!(read("S S   150.000 g\r\n"), None);
+    assert_eq!(read("S S  150.000   g\r\n"), None);
+    assert_eq!(read("S S    150.000  g\r\n"), None);
+}
+
 #[test]
 fn the_writer_refuses_what_has_no_line() {
     let weight = |identification: &str, status, value, decimals| Answer::Weight {
@@ -1130,6 +1333,7 @@ fn the_writer_refuses_what_has_no_line() {
         value,
         decimals,
         unit: Unit::Gram,
+        range: Range::Fine,
     };
     let refusal = |answer: Answer| {
         let mut buffer = [7; 17];

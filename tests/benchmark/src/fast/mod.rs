@@ -1,4 +1,4 @@
-//! Document 01, and No. 1 to No. 5 of document 02, written for speed: no allocation, the state changed where it is kept, answers written straight into the lent buffer.
+//! Document 01, and No. 1 to No. 7 of document 02, written for speed: no allocation, the state changed where it is kept, answers written straight into the lent buffer.
 //! It shares no table and no code with the proved module, which it is measured beside.
 
 pub mod command;

@@ -113,7 +113,8 @@ pub struct State {
 enum Answer {
     Nothing,
     Plain(Command, Status),
-    Weight(Command, Status, i64),
+    /// The net or the tare, and whether it is coarse.
+    Weight(Command, Status, i64, bool),
     Error(Error),
     Text(Command),
     List,
@@ -328,12 +329,13 @@ fn run<'a>(
         }
         Command::Ta => {
             if let Some(rest) = rest {
-                match preset(profile, now.unit, rest, typed_tare) {
+                let fine = profile.coarse_above();
+                match preset(profile, now.unit, rest, |text, scale| typed_tare(text, scale, fine)) {
                     Some(amount) => now.tare = amount,
                     None => return Answer::Plain(Command::Ta, Status::L),
                 }
             }
-            Answer::Weight(Command::Ta, Status::A, now.tare)
+            Answer::Weight(Command::Ta, Status::A, now.tare, profile.is_coarse(now.tare))
         }
         Command::D => match rest.and_then(quoted) {
             Some(text) => {
@@ -407,7 +409,7 @@ fn settle(profile: &Profile, command: Command, now: &mut Weighing) -> Answer {
 /// The answer of S; a weight starts SR.
 fn start_on_change(profile: &Profile, now: &mut Weighing) -> Answer {
     let answer = reading(profile, now);
-    if let Answer::Weight(_, _, net) = answer {
+    if let Answer::Weight(_, _, net, _) = answer {
         now.repeating = Repeating::Sr;
         now.last = net;
         now.owed = false;
@@ -427,7 +429,7 @@ fn reading(profile: &Profile, now: &Weighing) -> Answer {
     } else if gross < -i64::from(profile.underload) {
         Answer::Plain(Command::S, Status::Under)
     } else {
-        Answer::Weight(Command::S, Status::of_stability(now.stable), gross - now.tare)
+        Answer::Weight(Command::S, Status::of_stability(now.stable), gross - now.tare, profile.is_coarse(gross))
     }
 }
 
@@ -453,7 +455,7 @@ fn tare(profile: &Profile, command: Command, now: &mut Weighing) -> Answer {
         Answer::Plain(command, Status::Under)
     } else {
         now.tare = gross;
-        Answer::Weight(command, Status::of_stability(now.stable), gross)
+        Answer::Weight(command, Status::of_stability(now.stable), gross, profile.is_coarse(gross))
     }
 }
 
@@ -483,7 +485,7 @@ fn weigh(profile: &Profile, now: &mut Weighing) -> Answer {
 /// What a running SR sends for the sample: + or - once an excursion, S D once until an S S, and S S.
 fn on_change(profile: &Profile, now: &mut Weighing) -> Answer {
     let answer = reading(profile, now);
-    let Answer::Weight(_, _, net) = answer else {
+    let Answer::Weight(_, _, net, _) = answer else {
         return if std::mem::replace(&mut now.out, true) { Answer::Nothing } else { answer };
     };
     now.out = false;
@@ -502,7 +504,7 @@ fn on_change(profile: &Profile, now: &mut Weighing) -> Answer {
     }
 }
 
-/// By the set threshold, or by an eighth of the last net and 30 display steps; nothing is divided.
+/// By the set threshold, or by an eighth of the last net and 30 fine steps; nothing is divided.
 fn has_moved(profile: &Profile, now: &Weighing, net: i64) -> bool {
     let change = net.abs_diff(now.last);
     match now.threshold {
@@ -516,10 +518,10 @@ fn put(answer: Answer, profile: &Profile, unit: Unit, out: &mut [u8]) -> Option<
     match answer {
         Answer::Nothing => Some(0),
         Answer::Plain(command, status) => put_pieces([command.name(), &[b' ', status.byte(), CR, LF]], out),
-        Answer::Weight(command, status, net) => {
+        Answer::Weight(command, status, net, coarse) => {
             let mut field = [0; 10];
-            let scale = profile.scale(unit);
-            put_field(scale.places(net), scale.decimals, &mut field);
+            let scale = profile.scale(unit).in_range(coarse);
+            put_field(scale.places(net), scale.decimals, coarse, &mut field);
             put_pieces([command.name(), &[b' ', status.byte(), b' '], &field, b" ", unit.name(), b"\r\n"], out)
         }
         Answer::Error(error) => put_pieces([&error.line()], out),

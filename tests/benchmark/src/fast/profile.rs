@@ -40,6 +40,8 @@ pub struct Resolution {
 #[derive(Clone, Copy, Debug)]
 pub struct Profile {
     pub capacity: u32,
+    /// The limit above which weights are coarse; at the capacity none is.
+    pub fine: u32,
     pub underload: u32,
     pub zeroing: u32,
     pub timeout: u32,
@@ -53,7 +55,7 @@ pub struct Profile {
 }
 
 /// The bytes of a profile in the benchmark's input.
-pub const SIZE: usize = 160;
+pub const SIZE: usize = 164;
 
 impl Profile {
     pub fn is_allowed(&self) -> bool {
@@ -65,7 +67,7 @@ impl Profile {
             && self.identity.is_allowed()
     }
 
-    /// What weights are printed and typed in while this unit is in force.
+    /// What weights of the fine range are printed and typed in while this unit is in force.
     #[inline(always)]
     pub fn scale(&self, unit: Unit) -> Scale {
         let Resolution { decimals, step } = self.resolutions[unit as usize];
@@ -74,8 +76,18 @@ impl Profile {
 
     /// All nine; no early end. The limits are allowed, so the sum fits.
     fn are_scales_allowed(&self) -> bool {
-        let lowest = self.capacity + self.underload;
-        UNITS.iter().fold(true, |good, &unit| good & self.scale(unit).is_allowed(lowest))
+        let (lowest, has_coarse) = (self.capacity + self.underload, self.coarse_above().is_some());
+        UNITS.iter().fold(true, |good, &unit| good & self.scale(unit).is_allowed(lowest, has_coarse))
+    }
+
+    /// Whether this decides for the coarse range: gross, or in a tare answer the tare.
+    pub fn is_coarse(&self, deciding: i64) -> bool {
+        deciding > i64::from(self.fine)
+    }
+
+    /// The fine limit of a profile with two ranges.
+    pub fn coarse_above(&self) -> Option<u32> {
+        (self.fine < self.capacity).then_some(self.fine)
     }
 
     /// No net has a longer text: it has the most digits, and a minus unless it is rounded to zero.
@@ -85,6 +97,7 @@ impl Profile {
 
     fn are_limits_allowed(&self) -> bool {
         (1..=1_000_000_000).contains(&self.capacity)
+            && self.fine <= self.capacity
             && self.underload <= self.capacity
             && self.zeroing <= self.capacity
             && (1..=1000).contains(&self.timeout)
@@ -99,14 +112,15 @@ impl Profile {
             underload: number(4),
             zeroing: number(8),
             timeout: number(12),
+            fine: number(16),
             resolutions: UNITS.map(|unit| {
-                let at = 16 + 2 * unit as usize;
+                let at = 20 + 2 * unit as usize;
                 Resolution { decimals: bytes[at], step: bytes[at + 1] }
             }),
-            model: Text::from(&bytes[34..]),
-            software: Text::from(&bytes[75..]),
-            serial: Text::from(&bytes[116..]),
-            identity: Text::from(&bytes[137..]),
+            model: Text::from(&bytes[38..]),
+            software: Text::from(&bytes[79..]),
+            serial: Text::from(&bytes[120..]),
+            identity: Text::from(&bytes[141..]),
         }
     }
 }

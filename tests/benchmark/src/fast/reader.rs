@@ -3,7 +3,7 @@
 use super::command::{Command, Error, Status, VERSIONS};
 use super::module::put_pieces;
 use super::profile::is_printable;
-use super::weight::{fits, put_field, read_field, Unit};
+use super::weight::{are_coarse, fits, put_field, read_field, Unit};
 
 #[derive(Clone, Copy, Debug, PartialEq, Eq)]
 pub enum Answer<'a> {
@@ -23,6 +23,8 @@ pub struct Number {
     pub places: i64,
     pub decimals: u8,
     pub unit: Unit,
+    /// Of the coarse range, whose field ends in a space: places and decimals are those before it.
+    pub coarse: bool,
 }
 
 /// None is refusal 4.
@@ -79,8 +81,8 @@ fn read_weight(command: Command, status: Status, rest: &[u8]) -> Option<Answer<'
     }
     let (field, rest) = rest.split_first_chunk::<10>()?;
     let unit = Unit::named(rest.strip_prefix(b" ")?)?;
-    let (places, decimals) = read_field(field)?;
-    (places >= 0 || command == Command::S).then_some(Answer::Weight(command, status, Number { places, decimals, unit }))
+    let (places, decimals, coarse) = read_field(field)?;
+    (places >= 0 || command == Command::S).then_some(Answer::Weight(command, status, Number { places, decimals, unit, coarse }))
 }
 
 fn is_text(command: Command, text: &[u8]) -> bool {
@@ -119,7 +121,7 @@ pub fn write(answer: &Answer, out: &mut [u8]) -> Result<usize, u8> {
         }
         Answer::Weight(command, status, number) if is_weighed(command, status) && is_number(command, number) => {
             let mut field = [0; 10];
-            put_field(number.places, number.decimals, &mut field);
+            put_field(number.places, number.decimals, number.coarse, &mut field);
             put_pieces([command.name(), &[b' ', status.byte(), b' '], &field, b" ", number.unit.name(), b"\r\n"], out)
         }
         Answer::Error(error) => put_pieces([&error.line()], out),
@@ -138,6 +140,7 @@ pub fn write(answer: &Answer, out: &mut [u8]) -> Result<usize, u8> {
     written.ok_or(3)
 }
 
-fn is_number(command: Command, number: Number) -> bool {
-    number.decimals <= 6 && fits(number.places, number.decimals) && (number.places >= 0 || command == Command::S)
+fn is_number(command: Command, Number { places, decimals, coarse, .. }: Number) -> bool {
+    let are_decimals = if coarse { are_coarse(decimals) } else { decimals <= 6 };
+    are_decimals && fits(places, decimals, coarse) && (places >= 0 || command == Command::S)
 }

@@ -1,4 +1,4 @@
-//! Units, rounding, the ten characters, typed numbers.
+//! Units, rounding, the ten characters in both ranges, typed numbers.
 
 #[derive(Clone, Copy, Debug, PartialEq, Eq)]
 #[repr(u8)]
@@ -87,31 +87,48 @@ pub struct Scale {
     pub step: u8,
 }
 
+/// For profiles with one range and with two.
+static WIDEST: [[[u32; 64]; 9]; 2] = [widest(false), widest(true)];
+
 /// For each unit, at eight times the decimals and the step: the largest size of a lowest net that fits; 0 where no profile may have
 /// them. The rounded number has at most nine digits beside a minus, eight beside a point too, just if the size and half a step are
-/// below what the first number of more digits stands for.
-const WIDEST: [[u32; 64]; 9] = {
+/// below what the first number of more digits stands for. Coarse it has a decimal fewer, of at least two, and a character less, so
+/// seven digits; what fits so also fits fine.
+const fn widest(coarse: bool) -> [[u32; 64]; 9] {
     let mut all = [[0; 64]; 9];
     let mut at = 0;
     while at < 9 * 64 {
         let (unit, decimals, step) = (at / 64, at / 8 % 8, at % 8);
-        let (digits, divisor) = (if decimals > 0 { 8 } else { 9 }, step as u128 * NANOGRAMS[unit] as u128);
-        let multiplier = 1000 * POWERS[decimals] as u128;
-        if decimals <= 6 && matches!(step, 1 | 2 | 5) && divisor >= multiplier {
-            let size = (NANOGRAMS[unit] as u128 * POWERS[digits] as u128 - divisor / 2 - 1) / multiplier;
+        let divisor = step as u128 * NANOGRAMS[unit] as u128;
+        let may_stand = decimals <= 6 && matches!(step, 1 | 2 | 5) && divisor >= 1000 * POWERS[decimals] as u128;
+        if may_stand && (decimals >= 2 || !coarse) {
+            let (decimals, digits) = match decimals {
+                0 => (0, 9),
+                _ if coarse => (decimals - 1, 7),
+                _ => (decimals, 8),
+            };
+            let largest = NANOGRAMS[unit] as u128 * POWERS[digits] as u128 - divisor / 2 - 1;
+            let size = largest / (1000 * POWERS[decimals] as u128);
             all[unit][at % 64] = if size < u32::MAX as u128 { size as u32 } else { u32::MAX };
         }
         at += 1;
     }
     all
-};
+}
 
 impl Scale {
-    /// Whether it may stand in a profile with a lowest net of this size, which is not 0. Nothing is divided, and nothing ends it early.
-    pub fn is_allowed(&self, lowest: u32) -> bool {
+    /// Whether it may stand in a profile with a lowest net of this size, which is not 0, and with one range or two. Nothing is divided,
+    /// and nothing ends it early.
+    #[inline(always)]
+    pub fn is_allowed(&self, lowest: u32, has_coarse: bool) -> bool {
         let Scale { unit, decimals, step } = *self;
         let at = usize::from(decimals & 7) * 8 + usize::from(step & 7);
-        ((decimals | step) < 8) & (lowest <= WIDEST[unit as usize][at])
+        ((decimals | step) < 8) & (lowest <= WIDEST[usize::from(has_coarse)][unit as usize][at])
+    }
+
+    /// Of the coarse range, if asked for: one decimal fewer makes the step ten times as large. The scale has a decimal then.
+    pub fn in_range(self, coarse: bool) -> Scale {
+        Scale { decimals: self.decimals - u8::from(coarse), ..self }
     }
 
     fn divisor(&self) -> u64 {
@@ -134,20 +151,28 @@ impl Scale {
         }
     }
 
-    /// Whether a difference of nets is 30 display steps or more; the scale is allowed, so nothing overflows.
+    /// Whether a difference of nets is 30 steps or more; the scale is allowed, so nothing overflows.
     pub fn is_thirty_steps(&self, change: u64) -> bool {
         change * self.multiplier() >= 30 * self.divisor()
     }
 }
 
-/// Whether a number with at most 6 decimals takes at most ten characters.
-pub fn fits(places: i64, decimals: u8) -> bool {
-    let room = 10 - usize::from(decimals > 0) - usize::from(places < 0);
+/// Whether a number with at most 6 decimals takes at most ten characters; a coarse one has nine.
+pub fn fits(places: i64, decimals: u8, coarse: bool) -> bool {
+    let room = 10 - usize::from(coarse) - usize::from(decimals > 0) - usize::from(places < 0);
     places.unsigned_abs() < POWERS[room]
 }
 
-/// The ten characters of a number that fits them.
-pub fn put_field(places: i64, decimals: u8, out: &mut [u8; 10]) {
+/// The ten characters of a number that fits them; the last is a space where it is coarse.
+pub fn put_field(places: i64, decimals: u8, coarse: bool, out: &mut [u8; 10]) {
+    put_number(places, decimals, out);
+    if coarse {
+        // It fits nine, so the first is the space.
+        out.rotate_left(1);
+    }
+}
+
+fn put_number(places: i64, decimals: u8, out: &mut [u8; 10]) {
     let mut rest = places.unsigned_abs();
     let mut at = 10;
     *out = [b' '; 10];
@@ -172,6 +197,11 @@ pub fn put_field(places: i64, decimals: u8, out: &mut [u8; 10]) {
     if places < 0 {
         put(b'-');
     }
+}
+
+/// One fewer than a profile with two ranges may have.
+pub fn are_coarse(decimals: u8) -> bool {
+    (1..=5).contains(&decimals)
 }
 
 /// Digits with at most one point, which has digits on both sides and at most six after it: the number without the point, and its
@@ -210,6 +240,12 @@ fn micrograms(value: u64, decimals: u8, unit: Unit) -> Option<u64> {
     Some(value.checked_mul(unit.nanograms())?.checked_add(divisor / 2)? / divisor)
 }
 
+/// Whether it is above a limit, before any rounding. None where it overflows: that is over 18 kg, and no coarse step, of at most half
+/// a kilogram, takes it down to a capacity.
+fn is_above(value: u64, decimals: u8, unit: Unit, limit: u32) -> Option<bool> {
+    Some(value.checked_mul(unit.nanograms())? > u64::from(limit) * 1000 * POWERS[usize::from(decimals)])
+}
+
 /// SR's number in micrograms, rounded once; none where it is no number or above every capacity.
 pub fn typed_threshold(text: &[u8], scale: Scale) -> Option<u64> {
     let (value, decimals) = typed(text)?;
@@ -217,17 +253,32 @@ pub fn typed_threshold(text: &[u8], scale: Scale) -> Option<u64> {
 }
 
 /// TA's number in micrograms, rounded to the nearest display step first, a tie upwards; none where it is no number or above every
-/// capacity. The scale is allowed, and ten digits with six places more don't overflow.
-pub fn typed_tare(text: &[u8], scale: Scale) -> Option<u64> {
+/// capacity. The step is the coarse one for a number above this fine limit, if there is one. The scale is allowed, and ten digits with
+/// six places more don't overflow.
+pub fn typed_tare(text: &[u8], scale: Scale, fine: Option<u32>) -> Option<u64> {
     let (value, decimals) = typed(text)?;
+    let scale = match fine {
+        None => scale,
+        Some(fine) => scale.in_range(is_above(value, decimals, scale.unit, fine)?),
+    };
     let step = u64::from(scale.step);
     let divisor = step * POWERS[usize::from(decimals)];
     let steps = (value * POWERS[usize::from(scale.decimals)] + divisor / 2) / divisor;
     micrograms(steps * step, scale.decimals, scale.unit)
 }
 
-/// The number and the decimals of ten characters, if they are written as `put_field` writes them.
-pub fn read_field(field: &[u8; 10]) -> Option<(i64, u8)> {
+/// The number and the decimals of ten characters, and whether they are coarse, if they are written as `put_field` writes them.
+pub fn read_field(field: &[u8; 10]) -> Option<(i64, u8, bool)> {
+    let mut number = *field;
+    let coarse = field[9] == b' ';
+    if coarse {
+        number.rotate_right(1);
+    }
+    let (places, decimals) = read_number(&number)?;
+    (!coarse || are_coarse(decimals)).then_some((places, decimals, coarse))
+}
+
+fn read_number(field: &[u8; 10]) -> Option<(i64, u8)> {
     let spaces = field.iter().position(|&byte| byte != b' ')?;
     let (minus, digits) = match &field[spaces..] {
         [b'-', digits @ ..] => (true, digits),

@@ -19,6 +19,7 @@ const CONTROL: u8 = 6;
 
 const OTHER: u8 = 7;
 
+#[tactic(auto, unfolding(crate::specs::Classes::class_table))]
 fn cell(byte: u8) -> u8
     ensures { result ≡ get_or class_table byte 0 }
 {

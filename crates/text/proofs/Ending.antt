@@ -32,6 +32,7 @@ decimal_whole (suc d) m h = absurd (omega arith)
 -- and with decimals the digits before the point, the point and the decimals
 pub decimal_parts : (d m : ℕ) → 1 ≤ d → decimal_of d m ≡ digits_of (m / 10 ^ d) ++ (point ∷ last_digits d m)
 unfolding decimal_of
+decimal_parts zero m h = elim h [ ]
 decimal_parts (suc d) m h = refl
 
 pub length_decimal_parts : (d m : ℕ) → 1 ≤ d → length (decimal_of d m) ≡ length (digits_of (m / 10 ^ d)) + suc d

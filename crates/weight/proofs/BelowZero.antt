@@ -96,6 +96,7 @@ module _ (r : Resolution) (m : ℕ) (allowed : allowed_resolution r ≡ true) wh
 
 -- one decimal more is ten times as much
 ten_times : (d : ℕ) → 1 ≤ d → 10 ^ d ≡ 10 * 10 ^ (d - 1)
+ten_times zero h = elim h [ ]
 ten_times (suc d) h =
     let same : suc d - 1 ≡ d = omega arith in
     rw (pow-suc 10 d, same) (omega arith)

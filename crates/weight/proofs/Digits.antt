@@ -42,6 +42,7 @@ digits_small m h = in_small m m h
 -- the last digit stands after those of the rest
 pub digits_step : (m : ℕ) → 10 ≤ m → digits_of m ≡ digits_of (m / 10) ++ (digit (m % 10) ∷ [])
 unfolding digits_of
+digits_step zero h = elim h [ ]
 digits_step (suc m) h = rw (in_step m (suc m), enough m (suc m / 10) (suc m / 10) (omega arith) (omega arith))
 
 -- how many digits there are

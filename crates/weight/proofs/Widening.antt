@@ -25,4 +25,4 @@ module _ (z : ℤ) (f : SFits w32 z) where
   load_asks = rw (to_z-of_z f) (sfits_widen tt f)
 
   pub load_gives : to_z w64 (of_z w64 (to_z w32 (of_z w32 z))) ≡ z
-  load_gives = rw (to_z-of_z f) (to_z-of_z (sfits_widen tt f))
+  load_gives = rw (to_z-of_z {w = w32} f) (to_z-of_z {w = w64} (sfits_widen tt f))

@@ -82,6 +82,7 @@ decimal_fit d w m =
 -- a number without its sign, in p characters
 decimal_limit : (d m p : ℕ) → suc d + point_width d ≤ p → leb (length (decimal_of d m)) p ≡ ltb m (10 ^ (p - point_width d))
 unfolding decimal_of
+decimal_limit zero m zero h = elim h [ ]
 decimal_limit zero m (suc w) h = rw (sub-zero (suc w)) (digits_fit w m)
 decimal_limit (suc d) m p h = go (rw point_stands at h)
   where
@@ -108,6 +109,7 @@ decimals_few false d h = omega (arith, leb-true d 6 h)
 
 number_limit : (d w : ℕ) (n : ℤ) → suc (suc (suc d)) ≤ w → leb (width_of d n) w ≡ ltb (nat_abs n) (10 ^ (w - point_width d - minus_width n))
 unfolding width_of number_text
+number_limit d zero (negsuc m) h = elim h [ ]
 number_limit d w (pos m) h = rw (sub-zero) (decimal_limit d m w (omega (arith, point_small d)))
 number_limit d (suc w) (negsuc m) h =
     let less : suc w - point_width d - 1 ≡ w - point_width d = omega (arith, point_small d) in

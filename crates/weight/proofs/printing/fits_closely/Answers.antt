@@ -1,0 +1,52 @@
+use mathlib.Core.Path.{◌≡◌, sym, ◌∙◌}
+use mathlib.Core.Bool.{true}
+use Prim.Native.Nat.{◌*◌, ◌≤◌}
+use native.Mathlib.Omega.{arith}
+use borrow.Author.Rules.{rules}
+use borrow.Author.Tests.{not-true, not-false}
+use mir.Facts.{Fits-lt-pow}
+use Rattle.weight.specs.Rounding.{allowed_resolution}
+use Rattle.weight.proofs.Allowed.{few_decimals, allowed_divisor_limit}
+use Rattle.weight.proofs.BelowZero.{scaled_limit, below_zero_test}
+use Rattle.weight.proofs.printing.fits_closely.Goals as goal
+use Rattle.weight.proofs.printing.fits_closely.Lts
+use Rattle.weight.proofs.printing.fits_closely.Tie
+use Rattle.weight.proofs.printing.fits_closely.Reads
+
+abbrev After-is_step_allowed : Type 0
+After-is_step_allowed = Lts.After-is_step_allowed Tie.the-claims Reads.Pre Reads.Post Tie.handed_clauses
+
+abbrev Else-not-is_step_allowed : Type 0
+Else-not-is_step_allowed = Lts.Else1 Tie.the-claims Reads.Pre Reads.Post Tie.handed_clauses
+
+-- the test of the step is that of the resolution
+tested_at : (c : After-is_step_allowed) → c.is_step_allowed.result ≡ allowed_resolution c.args.resolution
+tested_at c =
+    rw (c.is_step_allowed.ensures, c.scale_of-scale.ensures, c.divisor_of-divisor.ensures)
+    (few_decimals c.args.resolution c.requires.decimals_bound)
+
+-- the resolution is allowed
+allowed_at : (c : Else-not-is_step_allowed) → allowed_resolution c.args.resolution ≡ true
+allowed_at c = sym (tested_at c.before) ∙ not-false _ c.if-not-is_step_allowed.false-raw
+
+-- twice the product is a number that a word holds
+scaled_at : (c : Else-not-is_step_allowed) → c.args.size * c.scale_of-scale.result ≤ 4_294_967_295 * 1_000_000_000
+scaled_at c =
+    rw c.scale_of-scale.ensures
+    (scaled_limit c.args.resolution c.args.size (allowed_at c) (Fits-lt-pow c.ranges.size))
+
+pub returns-then-not-is_step_allowed : goal.returns-then-not-is_step_allowed
+returns-then-not-is_step_allowed c = rw (sym (tested_at c.before) ∙ not-true _ c.if-not-is_step_allowed.true-raw)
+
+pub overflow_add-result : goal.overflow_add-result
+overflow_add-result c = record { fits = omega (arith, scaled_at c) }
+
+pub overflow_add-result-2 : goal.overflow_add-result-2
+overflow_add-result-2 c =
+    rw c.divisor_of-divisor.ensures
+    (record { fits = omega (arith, scaled_at c, allowed_divisor_limit c.args.resolution (allowed_at c)) })
+
+pub returns : goal.returns
+returns c =
+    rw (c.nanograms_of.ensures, c.divisor_of-divisor.ensures, c.scale_of-scale.ensures)
+    (below_zero_test c.args.resolution c.args.size (allowed_at c.before.before) (Fits-lt-pow c.ranges.size))

@@ -1,0 +1,17 @@
+use mathlib.Core.Path.{◌≡◌, refl, ◌∙◌}
+use Prim.Native.Nat.{◌-◌, ◌≤◌}
+use native.Mathlib.Omega.{arith}
+use lib.ListN.{length, take, length-set}
+use lib.Seq.{sets}
+use Rattle.emit.proofs.Laying.{sets_more, sets_all}
+use borrow.Author.Rules.{rules}
+use Rattle.emit.proofs.emit.put.Goals as goal
+
+pub loop-i-preserved : goal.loop-i-preserved
+loop-i-preserved c =
+    let start = c.args in
+    (
+      omega arith,
+      simp length-set (omega arith),
+      rw c.loop-i.invariant.2 (sets_more start.out.now start.at start.piece.now c.loop-i.i (omega arith)),
+    )

@@ -1,0 +1,31 @@
+use mathlib.Core.Path.{◌≡◌, refl}
+use Prim.Native.Nat.{◌≤◌, ◌-◌}
+use native.Mathlib.Omega.{arith}
+use lib.ListN.{length}
+use Rattle.answer.specs.Commands.{command_count}
+use Rattle.emit.proofs.Laying.{Laid}
+use Rattle.emit.proofs.Listing.{listed_to, line_room, line_more, line_last}
+use borrow.Author.Rules.{rules}
+use Rattle.emit.proofs.emit.put_list.Goals as goal
+
+pub loop-command-init : goal.loop-command-init
+unfolding listed_to
+loop-command-init c = (search rules, refl, (omega arith, refl))
+
+pub put_listed-next-requires : goal.put_listed-next-requires
+put_listed-next-requires c =
+    line_room c.args.out.now c.args.at c.loop-command.command c.loop-command.invariant.2 (omega arith) c.requires
+
+pub loop-command-preserved : goal.loop-command-preserved
+loop-command-preserved c =
+    (
+      omega arith,
+      omega arith,
+      line_more c.args.out.now c.args.at c.loop-command.command c.loop-command.invariant.2 (c.put_listed-next.ensures.value, c.put_listed-next.ensures.out_after),
+    )
+
+pub returns-clause-value : goal.returns-clause-value
+returns-clause-value c = (line_last c.args.out.now c.args.at c.loop-command.command c.loop-command.invariant.2 (omega arith)).0
+
+pub returns-clause-out_after : goal.returns-clause-out_after
+returns-clause-out_after c = (line_last c.args.out.now c.args.at c.loop-command.command c.loop-command.invariant.2 (omega arith)).1

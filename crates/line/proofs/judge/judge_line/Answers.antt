@@ -1,0 +1,6 @@
+use borrow.Author.Rules.{rules}
+use Rattle.line.proofs.Rows.{in_cells, cells_counted, judged}
+use Rattle.line.proofs.judge.judge_line.Goals as goal
+
+pub returns : goal.returns
+returns c = search (rules, judged)

@@ -14,6 +14,7 @@ import sys
 
 HERE = os.path.dirname(os.path.realpath(__file__))
 ROOT = os.path.dirname(HERE)
+NEW = re.compile("-|[a-z][A-Z]")
 TOKEN = re.compile(r'[^\s(){}\[\].,;"`]+')
 
 
@@ -23,7 +24,15 @@ def names():
 
 
 def turned(text, table):
-    return TOKEN.sub(lambda m: table.get(m.group(), m.group()), text)
+    """A name that is no more than snake case may also be a function's, so it is left alone in a path."""
+
+    def one(m):
+        it = m.group()
+        if it in table and not NEW.search(it) and "." in text[m.start() - 1 : m.start()] + text[m.end() : m.end() + 1]:
+            return it
+        return table.get(it, it)
+
+    return TOKEN.sub(one, text)
 
 
 def comment(text, table):
@@ -45,6 +54,8 @@ def antt(text, table):
 
 
 def source(text, table):
+    """Functions keep their names: of a source file only names that no function can have are turned."""
+    table = {k: v for k, v in table.items() if NEW.search(k)}
     out = []
     for line in text.split("\n"):
         at = line.find("//")

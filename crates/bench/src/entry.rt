@@ -1,5 +1,5 @@
 // What the input line is so far. Nothing of it is kept but a sample's number, so a line may have any length.
-use script::{LoadRead, above_zero_lem, below_zero};
+use script::{LoadRead, above_zero, below_zero};
 
 #[derive(Clone, Copy)]
 pub enum Entry {
@@ -131,5 +131,5 @@ pub fn load_of(sample: Sample) -> LoadRead {
     if sample.negative {
         return below_zero(sample.size);
     }
-    above_zero_lem(sample.size)
+    above_zero(sample.size)
 }

@@ -16,7 +16,7 @@ use model::{
     scale_of, with_display, with_line, with_mode, with_weighing,
 };
 use waiting::{begun, not_waiting};
-use weighing::{tare_answer, with_tare, with_unit_lem};
+use weighing::{tare_answer, with_tare, with_unit};
 use weight::{NO_TARE, Tare, WeightUnit};
 
 // The name's place; for SI, SIR and SR that of S.
@@ -120,7 +120,7 @@ fn select(state: State, unit: WeightUnit) -> Reaction
 {
     let weighing = state.weighing;
     answered(
-        with_weighing(state, with_unit_lem(weighing, unit)),
+        with_weighing(state, with_unit(weighing, unit)),
         plain(M21, Status::A),
     )
 }

@@ -6,7 +6,7 @@ ghost use Rattle.profiles.specs.ProfileA.{no_text40, no_text20, serial_a, readab
 
 use model::{Profile, Readability, Text20, Text40};
 
-fn no_text_lem() -> Text40
+fn no_text() -> Text40
     ensures { result ≡ no_text40 }
 {
     let bytes = [0u8; 40];
@@ -54,8 +54,8 @@ pub fn profile_a() -> Profile
         zeroing: 4_400_000,
         timeout: 3,
         readability: readability(),
-        model: no_text_lem(),
-        software: no_text_lem(),
+        model: no_text(),
+        software: no_text(),
         serial: serial(),
         release: short_text(),
     }

@@ -4,7 +4,7 @@ use crate::session::{Call, Session, make, make_whole, unknown};
 use crate::words::{first, first_cells};
 use script::{
     Numbers, Order, UnitNumbers, order_of, put_bytes, put_marks, sent_byte, with_fine,
-    with_numbers, with_unit_lem,
+    with_numbers, with_unit,
 };
 use told::put_state;
 
@@ -26,7 +26,7 @@ fn set_fine(session: Session, fine: u32) -> Session {
 
 fn set_unit(session: Session, numbers: UnitNumbers) -> Session {
     let given = session.profile;
-    let profile = with_unit_lem(given, numbers);
+    let profile = with_unit(given, numbers);
     let mut next = session;
     next.profile = profile;
     next

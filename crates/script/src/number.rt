@@ -63,7 +63,7 @@ pub fn number(text: &[u8]) -> u64
     digits_value(text)
 }
 
-pub fn above_zero_lem(size: u64) -> LoadRead
+pub fn above_zero(size: u64) -> LoadRead
     ensures { result ≡ above_zero size }
 {
     if LARGEST_LOAD < size {
@@ -89,5 +89,5 @@ pub fn load_of(text: &[u8]) -> LoadRead
     if byte_at(text, 0) == b'-' {
         return below_zero(number(from(text, 1)));
     }
-    above_zero_lem(number(text))
+    above_zero(number(text))
 }

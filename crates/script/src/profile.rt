@@ -139,7 +139,7 @@ fn byte_of(n: u64) -> u8
 }
 
 // The profile with these in the row of that unit and all else its own.
-pub fn with_unit_lem(profile: Profile, numbers: UnitNumbers) -> Profile
+pub fn with_unit(profile: Profile, numbers: UnitNumbers) -> Profile
     ensures { result ≡ with_unit profile numbers }
 {
     let read = numbers.unit;

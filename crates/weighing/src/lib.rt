@@ -6,5 +6,5 @@ mod weighing;
 
 pub use weighing::{
     Measured, is_outside, net_of, stability, tare_answer, tared_by, unchanged, weighed_by,
-    with_sample, with_tare, with_unit_lem, zeroed_by,
+    with_sample, with_tare, with_unit, zeroed_by,
 };

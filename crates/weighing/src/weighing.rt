@@ -157,7 +157,7 @@ pub fn with_sample(weighing: Weighing, load: Load, stable: bool) -> Weighing
 }
 
 // M21: nothing else moves.
-pub fn with_unit_lem(weighing: Weighing, unit: WeightUnit) -> Weighing
+pub fn with_unit(weighing: Weighing, unit: WeightUnit) -> Weighing
     ensures { result ≡ meaning.with_unit weighing unit }
 {
     let zero = weighing.zero;

@@ -65,7 +65,7 @@ pub fn end() {
     text(b"\n");
 }
 
-pub fn one_more_lem(n: u64) -> u64 {
+pub fn one_more(n: u64) -> u64 {
     if n < 18_446_744_073_709_551_615 {
         n + 1
     } else {

@@ -8,8 +8,8 @@ returns-then-weighing c =
     c.if-weighing.true
     c.scale_of-scale.ensures
     c.not_waiting.ensures
-    c.with_waiting_lem.ensures
+    c.with_waiting-free.ensures
     c.sending_of.ensures
-    c.with_sending_lem.ensures
+    c.with_sending-next.ensures
     c.settled.ensures
     c.measured_reaction.ensures

@@ -17,12 +17,11 @@ put_listed-next-requires c =
     line_room c.args.out.now c.args.at c.loop-command.command c.loop-command.invariant.2 (omega arith) c.requires
 
 pub loop-command-preserved : goal.loop-command-preserved
-loop-command-preserved c =
-    (
-      omega arith,
-      omega arith,
-      line_more c.args.out.now c.args.at c.loop-command.command c.loop-command.invariant.2 (c.put_listed-next.ensures.value, c.put_listed-next.ensures.out_after),
-    )
+loop-command-preserved c = (
+  omega arith,
+  omega arith,
+  line_more c.args.out.now c.args.at c.loop-command.command c.loop-command.invariant.2 (c.put_listed-next.ensures.value, c.put_listed-next.ensures.out_after),
+)
 
 pub returns-clause-value : goal.returns-clause-value
 returns-clause-value c = (line_last c.args.out.now c.args.at c.loop-command.command c.loop-command.invariant.2 (omega arith)).0

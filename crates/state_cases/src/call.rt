@@ -3,6 +3,7 @@ use device::{BytesTaken, Called, power_on, take_byte, take_bytes, take_sample};
 use lent::{fill, is_spilt};
 use model::{Profile, Refusal, State, start_state};
 use profiles::profile_a;
+use std::io;
 use weight::Load;
 
 fn number_of(refusal: Refusal) -> u8 {
@@ -43,26 +44,25 @@ fn seen(called: Called, seed: u8, out: &[u8]) -> Tried {
 }
 
 // The same call twice: what it writes is not as before in one of the two buffers, which differ in every byte.
-fn say_kept(label: &[u8], first: Tried, second: Tried) {
-    io::write_all(1, label);
+fn say_kept(rt: &impl Print, label: &[u8], first: Tried, second: Tried) -> io::Result<()> {
+    rt.write_all(label)?;
     let number = [first.number];
-    io::write_all(1, &number);
+    rt.write_all(&number)?;
     if first.spilt | second.spilt {
-        io::write_all(1, b" spilt");
-        return;
+        return rt.write_all(b" spilt");
     }
     if first.count == 0 {
-        io::write_all(1, b" kept");
-        return;
+        return rt.write_all(b" kept");
     }
     if first.number == b'0' {
-        io::write_all(1, b" rest kept");
+        rt.write_all(b" rest kept")?;
     }
+    Ok(())
 }
 
-fn say(label: &[u8], first: Tried, second: Tried) {
-    say_kept(label, first, second);
-    io::write_all(1, b"\n");
+fn say(rt: &impl Print, label: &[u8], first: Tried, second: Tried) -> io::Result<()> {
+    say_kept(rt, label, first, second)?;
+    rt.write_all(b"\n")
 }
 
 fn send_byte(state: State, seed: u8) -> Tried {
@@ -73,8 +73,8 @@ fn send_byte(state: State, seed: u8) -> Tried {
 }
 
 // A byte that ends no line, with a state.
-pub fn try_state(label: &[u8], state: State) {
-    say(label, send_byte(state, 1), send_byte(state, 2));
+pub fn try_state(rt: &impl Print, label: &[u8], state: State) -> io::Result<()> {
+    say(rt, label, send_byte(state, 1), send_byte(state, 2))
 }
 
 // The first `count` bytes; all of them where there are fewer.
@@ -105,12 +105,13 @@ fn send_sample(state: State, room: usize, seed: u8) -> Tried {
 }
 
 // A stable sample, with a state and a room.
-pub fn try_sample(label: &[u8], state: State, room: usize) {
+pub fn try_sample(rt: &impl Print, label: &[u8], state: State, room: usize) -> io::Result<()> {
     say(
+        rt,
         label,
         send_sample(state, room, 1),
         send_sample(state, room, 2),
-    );
+    )
 }
 
 fn switch_on(profile: Profile, state: State, room: usize, seed: u8) -> Tried {
@@ -121,12 +122,19 @@ fn switch_on(profile: Profile, state: State, room: usize, seed: u8) -> Tried {
 }
 
 // First that applies: profile, state, room.
-pub fn try_room(label: &[u8], profile: Profile, state: State, room: usize) {
+pub fn try_room(
+    rt: &impl Print,
+    label: &[u8],
+    profile: Profile,
+    state: State,
+    room: usize,
+) -> io::Result<()> {
     say(
+        rt,
         label,
         switch_on(profile, state, room, 1),
         switch_on(profile, state, room, 2),
-    );
+    )
 }
 
 // What came of a whole-buffer call.
@@ -150,15 +158,20 @@ fn seen_bytes(returned: BytesTaken, seed: u8, out: &[u8]) -> TriedBytes {
     }
 }
 
-fn say_bytes(label: &[u8], first: TriedBytes, second: TriedBytes) {
+fn say_bytes(
+    rt: &impl Print,
+    label: &[u8],
+    first: TriedBytes,
+    second: TriedBytes,
+) -> io::Result<()> {
     let one = first.tried;
     let other = second.tried;
-    say_kept(label, one, other);
-    io::write_all(1, b", ");
-    io::print_decimal(1, first.taken as u64);
-    io::write_all(1, b" taken, ");
-    io::print_decimal(1, one.count as u64);
-    io::write_all(1, b" counted\n");
+    say_kept(rt, label, one, other)?;
+    rt.write_all(b", ")?;
+    rt.print(first.taken)?;
+    rt.write_all(b" taken, ")?;
+    rt.print(one.count)?;
+    rt.write_all(b" counted\n")
 }
 
 fn send_bytes(
@@ -176,25 +189,34 @@ fn send_bytes(
 }
 
 // A text whose bytes are all good, with a room.
-pub fn try_text(label: &[u8], text: &[u8], room: usize) {
+pub fn try_text(rt: &impl Print, label: &[u8], text: &[u8], room: usize) -> io::Result<()> {
     let marks = [0u8; 256];
     let good = first(&marks, text.len());
     say_bytes(
+        rt,
         label,
         send_bytes(profile_a(), start_state(), text, good, room, 1),
         send_bytes(profile_a(), start_state(), text, good, room, 2),
-    );
+    )
 }
 
 // So many bytes that end no line and so many marks, with no room.
-pub fn try_lengths(label: &[u8], profile: Profile, state: State, count: usize, marked: usize) {
+pub fn try_lengths(
+    rt: &impl Print,
+    label: &[u8],
+    profile: Profile,
+    state: State,
+    count: usize,
+    marked: usize,
+) -> io::Result<()> {
     let bytes = [b'S'; 4097];
     let marks = [0u8; 4097];
     let sent = first(&bytes, count);
     let good = first(&marks, marked);
     say_bytes(
+        rt,
         label,
         send_bytes(profile, state, sent, good, 0, 1),
         send_bytes(profile, state, sent, good, 0, 2),
-    );
+    )
 }

@@ -13,34 +13,36 @@ mod ties;
 mod typed;
 mod units;
 
-fn main() {
-    units::cases();
-    nets::bench_cases();
-    nets::request_cases();
-    nets::manual_cases();
-    nets::range_cases();
-    nets::width_cases();
-    nets::resolution_cases();
-    ranges::coarse_cases();
-    ranges::width_cases();
-    ranges::in_force_cases();
-    ranges::fit_cases();
-    ties::cases();
-    typed::bench_cases();
-    typed::form_cases();
-    typed::tie_cases();
-    typed::large_cases();
-    preset::bench_cases();
-    preset::request_cases();
-    preset::first_tie_cases();
-    preset::second_tie_cases();
-    tares::request_cases();
-    tares::unit_cases();
-    tares::large_cases();
-    fields::written_cases();
-    fields::read_cases();
-    fields::other_cases();
-    fields::coarse_written_cases();
-    fields::coarse_read_cases();
-    fields::coarse_other_cases();
+use std::io;
+
+fn main(rt: HostRuntime) -> io::Result<()> {
+    units::cases(&rt)?;
+    nets::bench_cases(&rt)?;
+    nets::request_cases(&rt)?;
+    nets::manual_cases(&rt)?;
+    nets::range_cases(&rt)?;
+    nets::width_cases(&rt)?;
+    nets::resolution_cases(&rt)?;
+    ranges::coarse_cases(&rt)?;
+    ranges::width_cases(&rt)?;
+    ranges::in_force_cases(&rt)?;
+    ranges::fit_cases(&rt)?;
+    ties::cases(&rt)?;
+    typed::bench_cases(&rt)?;
+    typed::form_cases(&rt)?;
+    typed::tie_cases(&rt)?;
+    typed::large_cases(&rt)?;
+    preset::bench_cases(&rt)?;
+    preset::request_cases(&rt)?;
+    preset::first_tie_cases(&rt)?;
+    preset::second_tie_cases(&rt)?;
+    tares::request_cases(&rt)?;
+    tares::unit_cases(&rt)?;
+    tares::large_cases(&rt)?;
+    fields::written_cases(&rt)?;
+    fields::read_cases(&rt)?;
+    fields::other_cases(&rt)?;
+    fields::coarse_written_cases(&rt)?;
+    fields::coarse_read_cases(&rt)?;
+    fields::coarse_other_cases(&rt)
 }

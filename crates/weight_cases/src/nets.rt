@@ -1,5 +1,6 @@
 // Net weights printed: a size in micrograms, and the fields of that net weight and of its opposite.
 use crate::show;
+use std::io;
 use weight::{Micrograms, Resolution, WeightUnit};
 
 // Of the fine range.
@@ -12,158 +13,169 @@ pub fn fine(unit: WeightUnit, decimals: u8, step: u8) -> Resolution {
     }
 }
 
-pub fn printed(r: Resolution, net: i64) {
+pub fn printed(rt: &impl Print, r: Resolution, net: i64) -> io::Result<()> {
     let p = weight::printed_number(r, Micrograms(net));
     let places = p.places;
     if p.fits {
-        show::field(text::field_of(r.decimals, places, r.coarse));
+        show::field(rt, text::field_of(r.decimals, places, r.coarse))
     } else {
-        show::text(b" no");
+        show::text(rt, b" no")
     }
 }
 
-pub fn both_signs(r: Resolution, size: u64) {
-    printed(r, show::above(size));
-    printed(r, show::below(size));
+pub fn both_signs(rt: &impl Print, r: Resolution, size: u64) -> io::Result<()> {
+    printed(rt, r, show::above(size))?;
+    printed(rt, r, show::below(size))
 }
 
-fn net(r: Resolution, size: u64) {
-    show::text(b"net");
-    show::resolution(r);
-    show::number(size);
-    both_signs(r, size);
-    show::end();
+fn net(rt: &impl Print, r: Resolution, size: u64) -> io::Result<()> {
+    show::text(rt, b"net")?;
+    show::resolution(rt, r)?;
+    show::number(rt, size)?;
+    both_signs(rt, r, size)?;
+    show::end(rt)
 }
 
-pub fn each(r: Resolution, sizes: &[u64]) {
+pub fn each(rt: &impl Print, r: Resolution, sizes: &[u64]) -> io::Result<()> {
     let mut i = 0;
     while i < sizes.len() {
-        net(r, sizes[i]);
+        net(rt, r, sizes[i])?;
         i += 1;
     }
+    Ok(())
 }
 
-fn nets(unit: WeightUnit, decimals: u8, step: u8, sizes: &[u64]) {
-    each(fine(unit, decimals, step), sizes);
+fn nets(
+    rt: &impl Print,
+    unit: WeightUnit,
+    decimals: u8,
+    step: u8,
+    sizes: &[u64],
+) -> io::Result<()> {
+    each(rt, fine(unit, decimals, step), sizes)
 }
 
-fn grams(decimals: u8, sizes: &[u64]) {
-    nets(WeightUnit::G, decimals, 1, sizes);
+fn grams(rt: &impl Print, decimals: u8, sizes: &[u64]) -> io::Result<()> {
+    nets(rt, WeightUnit::G, decimals, 1, sizes)
 }
 
 // Document 01, "Bench cases": profile A is g, d 4, k 1.
-pub fn bench_cases() {
-    grams(4, &[14_256_049, 14_256_050, 49, 50]);
-    nets(WeightUnit::G, 4, 5, &[249, 250]);
-    nets(WeightUnit::Ct, 3, 1, &[99, 100]);
-    nets(WeightUnit::Oz, 5, 1, &[28_349_523]);
-    grams(4, &[220_000_000, 220_000_001, 1_000_000, 1_000_001]);
-    grams(4, &[10_000_050, 100_000_000]);
-    nets(WeightUnit::Mg, 3, 1, &[99_999_999, 100_000_000]);
-    nets(WeightUnit::Gn, 5, 1, &[64_798_910]);
-    nets(WeightUnit::Gn, 5, 2, &[64_798_910]);
+pub fn bench_cases(rt: &impl Print) -> io::Result<()> {
+    grams(rt, 4, &[14_256_049, 14_256_050, 49, 50])?;
+    nets(rt, WeightUnit::G, 4, 5, &[249, 250])?;
+    nets(rt, WeightUnit::Ct, 3, 1, &[99, 100])?;
+    nets(rt, WeightUnit::Oz, 5, 1, &[28_349_523])?;
+    grams(rt, 4, &[220_000_000, 220_000_001, 1_000_000, 1_000_001])?;
+    grams(rt, 4, &[10_000_050, 100_000_000])?;
+    nets(rt, WeightUnit::Mg, 3, 1, &[99_999_999, 100_000_000])?;
+    nets(rt, WeightUnit::Gn, 5, 1, &[64_798_910])?;
+    nets(rt, WeightUnit::Gn, 5, 2, &[64_798_910])
 }
 
 // Document 02, No. 5: one load in the eight other units, d 2, k 1.
-pub fn request_cases() {
-    nets(WeightUnit::Ct, 2, 1, &[14_256_050]);
-    nets(WeightUnit::Kg, 2, 1, &[14_256_050]);
-    nets(WeightUnit::Lb, 2, 1, &[14_256_050]);
-    nets(WeightUnit::Oz, 2, 1, &[14_256_050]);
-    nets(WeightUnit::Ozt, 2, 1, &[14_256_050]);
-    nets(WeightUnit::Gn, 2, 1, &[14_256_050]);
-    nets(WeightUnit::Dwt, 2, 1, &[14_256_050]);
-    nets(WeightUnit::Mg, 2, 1, &[14_256_050]);
+pub fn request_cases(rt: &impl Print) -> io::Result<()> {
+    nets(rt, WeightUnit::Ct, 2, 1, &[14_256_050])?;
+    nets(rt, WeightUnit::Kg, 2, 1, &[14_256_050])?;
+    nets(rt, WeightUnit::Lb, 2, 1, &[14_256_050])?;
+    nets(rt, WeightUnit::Oz, 2, 1, &[14_256_050])?;
+    nets(rt, WeightUnit::Ozt, 2, 1, &[14_256_050])?;
+    nets(rt, WeightUnit::Gn, 2, 1, &[14_256_050])?;
+    nets(rt, WeightUnit::Dwt, 2, 1, &[14_256_050])?;
+    nets(rt, WeightUnit::Mg, 2, 1, &[14_256_050])
 }
 
 // The weights that sources 003 and 000 print in commands and answers, each once.
-pub fn manual_cases() {
-    grams(1, &[4_875_200_000]);
-    grams(2, &[0, 1_230_000, 5_250_000, 10_000_000, 12_340_000]);
-    grams(2, &[15_000_000, 20_000_000, 67_890_000, 100_000_000]);
-    grams(2, &[100_120_000, 114_870_000, 115_230_000, 117_570_000]);
-    grams(2, &[129_070_000, 129_080_000, 129_090_000, 200_000_000]);
-    grams(2, &[200_010_000, 2_000_000_000]);
-    grams(3, &[256_000, 14_256_000, 100_000_000, 100_123_000]);
-    grams(3, &[123_456_000]);
-    grams(4, &[70_000_000, 200_123_400]);
+pub fn manual_cases(rt: &impl Print) -> io::Result<()> {
+    grams(rt, 1, &[4_875_200_000])?;
+    grams(rt, 2, &[0, 1_230_000, 5_250_000, 10_000_000, 12_340_000])?;
+    grams(rt, 2, &[15_000_000, 20_000_000, 67_890_000, 100_000_000])?;
+    grams(rt, 2, &[100_120_000, 114_870_000, 115_230_000, 117_570_000])?;
+    grams(rt, 2, &[129_070_000, 129_080_000, 129_090_000, 200_000_000])?;
+    grams(rt, 2, &[200_010_000, 2_000_000_000])?;
+    grams(rt, 3, &[256_000, 14_256_000, 100_000_000, 100_123_000])?;
+    grams(rt, 3, &[123_456_000])?;
+    grams(rt, 4, &[70_000_000, 200_123_400])
 }
 
 // The ends of what a load can be, of what is rounded, and of the machine's numbers.
-pub fn range_cases() {
-    grams(4, &[0, 1, 1_000_000_000, 2_147_483_647, 2_147_483_648]);
-    grams(4, &[4_147_483_648, 4_999_999_999, 5_000_000_000]);
-    grams(4, &[5_000_000_001]);
-    grams(4, &[9_223_372_036_854_775_807, 9_223_372_036_854_775_808]);
-    grams(6, &[0, 1]);
-    nets(WeightUnit::Mg, 0, 1, &[5_000_000_000, 5_000_000_001]);
-    nets(WeightUnit::Ct, 4, 1, &[5_000_000_000, 5_000_000_001]);
-    nets(WeightUnit::Oz, 6, 1, &[5_000_000_000, 5_000_000_001]);
-    nets(WeightUnit::Ozt, 0, 5, &[5_000_000_000, 5_000_000_001]);
-    nets(WeightUnit::Gn, 4, 1, &[5_000_000_000, 5_000_000_001]);
-    nets(WeightUnit::Dwt, 4, 2, &[5_000_000_000, 5_000_000_001]);
-    nets(WeightUnit::Kg, 6, 1, &[5_000_000_000, 5_000_000_001]);
-    nets(WeightUnit::Lb, 6, 5, &[5_000_000_000, 5_000_000_001]);
+pub fn range_cases(rt: &impl Print) -> io::Result<()> {
+    grams(rt, 4, &[0, 1, 1_000_000_000, 2_147_483_647, 2_147_483_648])?;
+    grams(rt, 4, &[4_147_483_648, 4_999_999_999, 5_000_000_000])?;
+    grams(rt, 4, &[5_000_000_001])?;
+    grams(
+        rt,
+        4,
+        &[9_223_372_036_854_775_807, 9_223_372_036_854_775_808],
+    )?;
+    grams(rt, 6, &[0, 1])?;
+    nets(rt, WeightUnit::Mg, 0, 1, &[5_000_000_000, 5_000_000_001])?;
+    nets(rt, WeightUnit::Ct, 4, 1, &[5_000_000_000, 5_000_000_001])?;
+    nets(rt, WeightUnit::Oz, 6, 1, &[5_000_000_000, 5_000_000_001])?;
+    nets(rt, WeightUnit::Ozt, 0, 5, &[5_000_000_000, 5_000_000_001])?;
+    nets(rt, WeightUnit::Gn, 4, 1, &[5_000_000_000, 5_000_000_001])?;
+    nets(rt, WeightUnit::Dwt, 4, 2, &[5_000_000_000, 5_000_000_001])?;
+    nets(rt, WeightUnit::Kg, 6, 1, &[5_000_000_000, 5_000_000_001])?;
+    nets(rt, WeightUnit::Lb, 6, 5, &[5_000_000_000, 5_000_000_001])
 }
 
 // The last size whose field fits, above zero or below, and the first that does not.
-pub fn last_and_next(r: Resolution, last: u64) {
-    net(r, last);
-    net(r, show::one_more(last));
+pub fn last_and_next(rt: &impl Print, r: Resolution, last: u64) -> io::Result<()> {
+    net(rt, r, last)?;
+    net(rt, r, show::one_more(last))
 }
 
-fn edge(unit: WeightUnit, decimals: u8, step: u8, last: u64) {
-    last_and_next(fine(unit, decimals, step), last);
+fn edge(rt: &impl Print, unit: WeightUnit, decimals: u8, step: u8, last: u64) -> io::Result<()> {
+    last_and_next(rt, fine(unit, decimals, step), last)
 }
 
 // No net is too wide for kg and lb.
-pub fn width_cases() {
-    edge(WeightUnit::G, 6, 1, 999_999_999);
-    edge(WeightUnit::G, 6, 1, 99_999_999);
-    edge(WeightUnit::Mg, 3, 1, 999_999_999);
-    edge(WeightUnit::Mg, 3, 1, 99_999_999);
-    edge(WeightUnit::Mg, 2, 1, 999_999_994);
-    edge(WeightUnit::Ct, 6, 5, 199_999_999);
-    edge(WeightUnit::Ct, 6, 5, 19_999_999);
-    edge(WeightUnit::Ct, 5, 1, 1_999_999_998);
-    edge(WeightUnit::Ct, 5, 1, 199_999_998);
-    edge(WeightUnit::Ct, 4, 2, 1_999_999_979);
-    edge(WeightUnit::Oz, 6, 1, 2_834_952_298);
-    edge(WeightUnit::Ozt, 6, 1, 3_110_347_664);
-    edge(WeightUnit::Gn, 5, 2, 647_989_099);
-    edge(WeightUnit::Gn, 5, 2, 64_798_909);
-    edge(WeightUnit::Gn, 4, 1, 647_989_096);
-    edge(WeightUnit::Dwt, 6, 1, 1_555_173_839);
-    edge(WeightUnit::Dwt, 6, 1, 155_517_383);
-    edge(WeightUnit::Dwt, 5, 5, 1_555_173_801);
+pub fn width_cases(rt: &impl Print) -> io::Result<()> {
+    edge(rt, WeightUnit::G, 6, 1, 999_999_999)?;
+    edge(rt, WeightUnit::G, 6, 1, 99_999_999)?;
+    edge(rt, WeightUnit::Mg, 3, 1, 999_999_999)?;
+    edge(rt, WeightUnit::Mg, 3, 1, 99_999_999)?;
+    edge(rt, WeightUnit::Mg, 2, 1, 999_999_994)?;
+    edge(rt, WeightUnit::Ct, 6, 5, 199_999_999)?;
+    edge(rt, WeightUnit::Ct, 6, 5, 19_999_999)?;
+    edge(rt, WeightUnit::Ct, 5, 1, 1_999_999_998)?;
+    edge(rt, WeightUnit::Ct, 5, 1, 199_999_998)?;
+    edge(rt, WeightUnit::Ct, 4, 2, 1_999_999_979)?;
+    edge(rt, WeightUnit::Oz, 6, 1, 2_834_952_298)?;
+    edge(rt, WeightUnit::Ozt, 6, 1, 3_110_347_664)?;
+    edge(rt, WeightUnit::Gn, 5, 2, 647_989_099)?;
+    edge(rt, WeightUnit::Gn, 5, 2, 64_798_909)?;
+    edge(rt, WeightUnit::Gn, 4, 1, 647_989_096)?;
+    edge(rt, WeightUnit::Dwt, 6, 1, 1_555_173_839)?;
+    edge(rt, WeightUnit::Dwt, 6, 1, 155_517_383)?;
+    edge(rt, WeightUnit::Dwt, 5, 5, 1_555_173_801)
 }
 
 // A net weight of a gram.
-fn gram(unit: WeightUnit, decimals: u8, step: u8) {
-    nets(unit, decimals, step, &[1_000_000]);
+fn gram(rt: &impl Print, unit: WeightUnit, decimals: u8, step: u8) -> io::Result<()> {
+    nets(rt, unit, decimals, step, &[1_000_000])
 }
 
 // Decimals and steps just allowed and just not; the ties go through all that a profile can ask for.
-pub fn resolution_cases() {
-    gram(WeightUnit::G, 6, 1);
-    gram(WeightUnit::G, 7, 1);
-    gram(WeightUnit::G, 255, 1);
-    gram(WeightUnit::G, 4, 0);
-    gram(WeightUnit::G, 4, 3);
-    gram(WeightUnit::G, 4, 4);
-    gram(WeightUnit::G, 4, 6);
-    gram(WeightUnit::G, 4, 10);
-    gram(WeightUnit::G, 4, 255);
-    gram(WeightUnit::Mg, 3, 1);
-    gram(WeightUnit::Mg, 4, 5);
-    gram(WeightUnit::Ct, 6, 2);
-    gram(WeightUnit::Ct, 6, 5);
-    gram(WeightUnit::Oz, 7, 5);
-    gram(WeightUnit::Ozt, 7, 5);
-    gram(WeightUnit::Gn, 5, 1);
-    gram(WeightUnit::Gn, 5, 2);
-    gram(WeightUnit::Kg, 6, 1);
-    gram(WeightUnit::Kg, 7, 1);
-    gram(WeightUnit::Lb, 6, 1);
-    gram(WeightUnit::Lb, 7, 5);
+pub fn resolution_cases(rt: &impl Print) -> io::Result<()> {
+    gram(rt, WeightUnit::G, 6, 1)?;
+    gram(rt, WeightUnit::G, 7, 1)?;
+    gram(rt, WeightUnit::G, 255, 1)?;
+    gram(rt, WeightUnit::G, 4, 0)?;
+    gram(rt, WeightUnit::G, 4, 3)?;
+    gram(rt, WeightUnit::G, 4, 4)?;
+    gram(rt, WeightUnit::G, 4, 6)?;
+    gram(rt, WeightUnit::G, 4, 10)?;
+    gram(rt, WeightUnit::G, 4, 255)?;
+    gram(rt, WeightUnit::Mg, 3, 1)?;
+    gram(rt, WeightUnit::Mg, 4, 5)?;
+    gram(rt, WeightUnit::Ct, 6, 2)?;
+    gram(rt, WeightUnit::Ct, 6, 5)?;
+    gram(rt, WeightUnit::Oz, 7, 5)?;
+    gram(rt, WeightUnit::Ozt, 7, 5)?;
+    gram(rt, WeightUnit::Gn, 5, 1)?;
+    gram(rt, WeightUnit::Gn, 5, 2)?;
+    gram(rt, WeightUnit::Kg, 6, 1)?;
+    gram(rt, WeightUnit::Kg, 7, 1)?;
+    gram(rt, WeightUnit::Lb, 6, 1)?;
+    gram(rt, WeightUnit::Lb, 7, 5)
 }

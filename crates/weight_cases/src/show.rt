@@ -1,68 +1,70 @@
 // What a line is made of, each part but the first word with a space before it; and numbers of either sign from their size.
+use std::io;
 use text::Field;
 use weight::{LastPlaces, Resolution, WeightUnit};
 
-pub fn text(bytes: &[u8]) {
-    io::write_all(1, bytes);
+pub fn text(rt: &impl Print, bytes: &[u8]) -> io::Result<()> {
+    rt.write_all(bytes)
 }
 
 // A text between quotes, so that its ends are seen.
-pub fn quoted(bytes: &[u8]) {
-    text(b" \"");
-    text(bytes);
-    text(b"\"");
+pub fn quoted(rt: &impl Print, bytes: &[u8]) -> io::Result<()> {
+    text(rt, b" \"")?;
+    text(rt, bytes)?;
+    text(rt, b"\"")
 }
 
-pub fn number(n: u64) {
-    text(b" ");
-    io::print_decimal(1, n);
+pub fn number(rt: &impl Print, n: u64) -> io::Result<()> {
+    text(rt, b" ")?;
+    rt.print(n)
 }
 
-pub fn unit(u: WeightUnit) {
+pub fn unit(rt: &impl Print, u: WeightUnit) -> io::Result<()> {
     let t = text::unit_text(u);
     let cells = t.cells;
-    text(b" ");
-    text(&cells);
+    text(rt, b" ")?;
+    text(rt, &cells)
 }
 
 // All ten cells, also of a field that does not fit.
-pub fn field(f: Field) {
+pub fn field(rt: &impl Print, f: Field) -> io::Result<()> {
     let cells = f.cells;
     if !f.fits {
-        text(b" no");
+        text(rt, b" no")?;
     }
-    text(b" [");
-    text(&cells);
-    text(b"]");
+    text(rt, b" [")?;
+    text(rt, &cells)?;
+    text(rt, b"]")
 }
 
 // A number of at most ten characters, as a field with no decimals.
-pub fn whole(n: i64) {
-    field(text::field_of(0, LastPlaces(n), false));
+pub fn whole(rt: &impl Print, n: i64) -> io::Result<()> {
+    field(rt, text::field_of(0, LastPlaces(n), false))
 }
 
 // The range: a word for the coarse one alone.
-pub fn range(coarse: bool) {
+pub fn range(rt: &impl Print, coarse: bool) -> io::Result<()> {
     if coarse {
-        text(b" coarse");
+        text(rt, b" coarse")?;
     }
+    Ok(())
 }
 
-pub fn resolution(r: Resolution) {
+pub fn resolution(rt: &impl Print, r: Resolution) -> io::Result<()> {
     let u = r.unit;
-    unit(u);
-    number(r.decimals as u64);
-    number(r.step as u64);
-    range(r.coarse);
+    unit(rt, u)?;
+    number(rt, r.decimals as u64)?;
+    number(rt, r.step as u64)?;
+    range(rt, r.coarse)?;
     if weight::is_allowed(r) {
-        text(b" allowed");
+        text(rt, b" allowed")
     } else {
-        text(b" refused");
+        text(rt, b" refused")
     }
 }
 
-pub fn end() {
-    text(b"\n");
+pub fn end(rt: &impl Print) -> io::Result<()> {
+    text(rt, b"\n")
 }
 
 pub fn one_more(n: u64) -> u64 {

@@ -1,6 +1,7 @@
 // Lists of texts for the functions that read.
 use crate::tares::Limits;
 use crate::{fields, preset, tares, typed, units};
+use std::io;
 use weight::{Resolution, WeightUnit};
 
 // What the texts of a list are read as.
@@ -13,25 +14,26 @@ pub enum Kind {
     Field,
 }
 
-fn one(kind: Kind, text: &[u8]) {
+fn one(rt: &impl Print, kind: Kind, text: &[u8]) -> io::Result<()> {
     match kind {
-        Kind::Unit => units::named(text),
-        Kind::Typed(unit) => typed::typed(unit, text),
-        Kind::Preset(r) => preset::preset(r, text),
-        Kind::Tare(limits, r) => tares::tare(limits, r, text),
-        Kind::Field => fields::read(text),
+        Kind::Unit => units::named(rt, text),
+        Kind::Typed(unit) => typed::typed(rt, unit, text),
+        Kind::Preset(r) => preset::preset(rt, r, text),
+        Kind::Tare(limits, r) => tares::tare(rt, limits, r, text),
+        Kind::Field => fields::read(rt, text),
     }
 }
 
 // Every text of a list; each ends with a bar.
-pub fn each(kind: Kind, list: &[u8]) {
+pub fn each(rt: &impl Print, kind: Kind, list: &[u8]) -> io::Result<()> {
     let mut from = 0;
     let mut i = 0;
     while i < list.len() {
         if list[i] == b'|' {
-            one(kind, &list[from..i]);
+            one(rt, kind, &list[from..i])?;
             from = i + 1;
         }
         i += 1;
     }
+    Ok(())
 }

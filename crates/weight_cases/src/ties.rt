@@ -3,6 +3,7 @@
 ghost use Rattle.std.specs.Prelude.{◌≤◌};
 
 use crate::{nets, show};
+use std::io;
 use weight::{Resolution, WeightUnit};
 
 // k x unit.
@@ -20,51 +21,51 @@ fn step_nanograms(unit: WeightUnit, step: u8) -> u64
     }
 }
 
-fn around(r: Resolution, size: u64) {
-    show::text(b"tie");
-    show::resolution(r);
-    show::number(size);
-    nets::both_signs(r, show::one_less(size));
-    nets::both_signs(r, size);
-    nets::both_signs(r, show::one_more(size));
-    show::end();
+fn around(rt: &impl Print, r: Resolution, size: u64) -> io::Result<()> {
+    show::text(rt, b"tie")?;
+    show::resolution(rt, r)?;
+    show::number(rt, size)?;
+    nets::both_signs(rt, r, show::one_less(size))?;
+    nets::both_signs(rt, r, size)?;
+    nets::both_signs(rt, r, show::one_more(size))?;
+    show::end(rt)
 }
 
 // One half step and 25 of them, which is a tie in whole micrograms for each unit that has one; `per` is 2,000 x 10^d.
-fn middles(unit: WeightUnit, decimals: u8, step: u8, per: u64) {
+fn middles(rt: &impl Print, unit: WeightUnit, decimals: u8, step: u8, per: u64) -> io::Result<()> {
     if per < 1 {
-        return;
+        return Ok(());
     }
     let r = nets::fine(unit, decimals, step);
     let n = step_nanograms(unit, step);
-    around(r, n / per);
-    around(r, n * 25 / per);
+    around(rt, r, n / per)?;
+    around(rt, r, n * 25 / per)
 }
 
-fn every_decimal(unit: WeightUnit, step: u8) {
-    middles(unit, 0, step, 2_000);
-    middles(unit, 1, step, 20_000);
-    middles(unit, 2, step, 200_000);
-    middles(unit, 3, step, 2_000_000);
-    middles(unit, 4, step, 20_000_000);
-    middles(unit, 5, step, 200_000_000);
-    middles(unit, 6, step, 2_000_000_000);
+fn every_decimal(rt: &impl Print, unit: WeightUnit, step: u8) -> io::Result<()> {
+    middles(rt, unit, 0, step, 2_000)?;
+    middles(rt, unit, 1, step, 20_000)?;
+    middles(rt, unit, 2, step, 200_000)?;
+    middles(rt, unit, 3, step, 2_000_000)?;
+    middles(rt, unit, 4, step, 20_000_000)?;
+    middles(rt, unit, 5, step, 200_000_000)?;
+    middles(rt, unit, 6, step, 2_000_000_000)
 }
 
-fn every_step(unit: WeightUnit) {
-    every_decimal(unit, 1);
-    every_decimal(unit, 2);
-    every_decimal(unit, 5);
+fn every_step(rt: &impl Print, unit: WeightUnit) -> io::Result<()> {
+    every_decimal(rt, unit, 1)?;
+    every_decimal(rt, unit, 2)?;
+    every_decimal(rt, unit, 5)
 }
 
-pub fn cases() {
-    every_step(WeightUnit::G);
-    every_step(WeightUnit::Mg);
-    every_step(WeightUnit::Ct);
-    every_step(WeightUnit::Oz);
-    every_step(WeightUnit::Ozt);
-    every_step(WeightUnit::Gn);
-    every_step(WeightUnit::Dwt);
-    every_step(WeightUnit::Kg);
-    every_step(WeightUnit::Lb);
+pub fn cases(rt: &impl Print) -> io::Result<()> {
+    every_step(rt, WeightUnit::G)?;
+    every_step(rt, WeightUnit::Mg)?;
+    every_step(rt, WeightUnit::Ct)?;
+    every_step(rt, WeightUnit::Oz)?;
+    every_step(rt, WeightUnit::Ozt)?;
+    every_step(rt, WeightUnit::Gn)?;
+    every_step(rt, WeightUnit::Dwt)?;
+    every_step(rt, WeightUnit::Kg)?;
+    every_step(rt, WeightUnit::Lb)
 }

@@ -1,40 +1,41 @@
 // The units: text, its length and nanograms; and reading texts back.
 use crate::texts::Kind;
 use crate::{show, texts};
+use std::io;
 use text::UnitRead;
 use weight::WeightUnit;
 
-fn unit(u: WeightUnit) {
+fn unit(rt: &impl Print, u: WeightUnit) -> io::Result<()> {
     let t = text::unit_text(u);
     let n = weight::nanograms_of(u);
-    show::text(b"unit");
-    show::unit(u);
-    show::number(t.len as u64);
-    show::number(n.0);
-    show::end();
+    show::text(rt, b"unit")?;
+    show::unit(rt, u)?;
+    show::number(rt, t.len as u64)?;
+    show::number(rt, n.0)?;
+    show::end(rt)
 }
 
-pub fn named(text: &[u8]) {
-    show::text(b"named");
+pub fn named(rt: &impl Print, text: &[u8]) -> io::Result<()> {
+    show::text(rt, b"named")?;
     let found = text::read_unit(text);
     match found {
-        UnitRead::Named(u) => show::unit(u),
-        UnitRead::Unknown => show::text(b" no "),
+        UnitRead::Named(u) => show::unit(rt, u)?,
+        UnitRead::Unknown => show::text(rt, b" no ")?,
     }
-    show::quoted(text);
-    show::end();
+    show::quoted(rt, text)?;
+    show::end(rt)
 }
 
-pub fn cases() {
-    unit(WeightUnit::G);
-    unit(WeightUnit::Mg);
-    unit(WeightUnit::Ct);
-    unit(WeightUnit::Oz);
-    unit(WeightUnit::Ozt);
-    unit(WeightUnit::Gn);
-    unit(WeightUnit::Dwt);
-    unit(WeightUnit::Kg);
-    unit(WeightUnit::Lb);
-    texts::each(Kind::Unit, b"g|mg|ct|oz|ozt|GN|dwt|kg|lb|");
-    texts::each(Kind::Unit, b"|G|gn|KG|g | g|m|dw|ozt |oztt|DWT|k|lbs|");
+pub fn cases(rt: &impl Print) -> io::Result<()> {
+    unit(rt, WeightUnit::G)?;
+    unit(rt, WeightUnit::Mg)?;
+    unit(rt, WeightUnit::Ct)?;
+    unit(rt, WeightUnit::Oz)?;
+    unit(rt, WeightUnit::Ozt)?;
+    unit(rt, WeightUnit::Gn)?;
+    unit(rt, WeightUnit::Dwt)?;
+    unit(rt, WeightUnit::Kg)?;
+    unit(rt, WeightUnit::Lb)?;
+    texts::each(rt, Kind::Unit, b"g|mg|ct|oz|ozt|GN|dwt|kg|lb|")?;
+    texts::each(rt, Kind::Unit, b"|G|gn|KG|g | g|m|dw|ozt |oztt|DWT|k|lbs|")
 }

@@ -6,38 +6,39 @@ mod entry;
 mod session;
 
 use session::{Session, close, on, take};
+use std::io;
+use std::io::Read;
 
 // Every byte of a chunk, one after the other.
-fn take_all(session: Session, chunk: &[u8]) -> Session {
+fn take_all(rt: &impl Print, session: Session, chunk: &[u8]) -> io::Result<Session> {
     let mut latest = session;
     let mut i = 0;
     while i < chunk.len() {
-        latest = take(latest, chunk[i]);
+        latest = take(rt, latest, chunk[i])?;
         i += 1;
     }
-    latest
+    Ok(latest)
 }
 
 // Reads once.
-fn take_some(session: Session) -> Session {
+fn take_some(rt: &impl Print, input: &mut impl Read, session: Session) -> io::Result<Session> {
     let mut chunk = [0u8; 4096];
-    let got = libc::read(0, &mut chunk);
-    if got <= 0 {
-        return close(session);
+    let n = input.read(&mut chunk)?;
+    if n < 1 {
+        return close(rt, session);
     }
-    let n = io::count(got, &chunk);
-    take_all(session, &chunk[..n])
+    take_all(rt, session, &chunk[..n])
 }
 
-// A proved loop has to end, and nothing says that an input does: it counts down from a number that no run uses up.
-fn main() {
-    let mut session = on();
-    let mut turns = u64::MAX;
-    while turns > 0 {
-        session = take_some(session);
+// A proved loop has to end, and nothing says that an input does: it counts up to a number that no run reaches.
+fn main(rt: HostRuntime) -> io::Result<()> {
+    let mut input = rt.stdin();
+    let mut session = on(&rt)?;
+    for _ in 0..u64::MAX {
+        session = take_some(&rt, &mut input, session)?;
         if session.closed {
-            return;
+            return Ok(());
         }
-        turns -= 1;
     }
+    Ok(())
 }

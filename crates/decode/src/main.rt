@@ -5,44 +5,49 @@ mod piece;
 mod tell;
 
 use piece::{Piece, close, none, take};
+use std::io;
+use std::io::Read;
 
 // Every byte of a chunk, one after the other.
-fn take_all(piece: Piece, chunk: &[u8], bytes: &mut [u8]) -> Piece {
+fn take_all(rt: &impl Print, piece: Piece, chunk: &[u8], bytes: &mut [u8]) -> io::Result<Piece> {
     let mut latest = piece;
     let mut i = 0;
     while i < chunk.len() {
-        latest = take(latest, chunk[i], bytes);
+        latest = take(rt, latest, chunk[i], bytes)?;
         i += 1;
     }
-    latest
+    Ok(latest)
 }
 
 // Reads once.
-fn take_some(piece: Piece, bytes: &mut [u8]) -> Piece {
+fn take_some(
+    rt: &impl Print,
+    input: &mut impl Read,
+    piece: Piece,
+    bytes: &mut [u8],
+) -> io::Result<Piece> {
     let mut chunk = [0u8; 4096];
-    let got = libc::read(0, &mut chunk);
-    if got <= 0 {
-        return close(piece, bytes);
+    let n = input.read(&mut chunk)?;
+    if n < 1 {
+        return close(rt, piece, bytes);
     }
-    let n = io::count(got, &chunk);
-    take_all(piece, &chunk[..n], bytes)
+    take_all(rt, piece, &chunk[..n], bytes)
 }
 
-// A proved loop has to end, and nothing says that an input does: it counts down from a number that no run uses up.
-fn decode(bytes: &mut [u8]) {
+// A proved loop has to end, and nothing says that an input does: it counts up to a number that no run reaches.
+fn decode(rt: &impl Print, input: &mut impl Read, bytes: &mut [u8]) -> io::Result<()> {
     let mut piece = none();
-    let mut turns = u64::MAX;
-    while turns > 0 {
-        piece = take_some(piece, bytes);
+    for _ in 0..u64::MAX {
+        piece = take_some(rt, input, piece, bytes)?;
         if piece.closed {
-            return;
+            return Ok(());
         }
-        turns -= 1;
     }
+    Ok(())
 }
 
 // No answer has more than 49 bytes.
-fn main() {
+fn main(rt: HostRuntime) -> io::Result<()> {
     let mut bytes = [0u8; 64];
-    decode(&mut bytes);
+    decode(&rt, &mut rt.stdin(), &mut bytes)
 }

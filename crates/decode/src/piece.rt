@@ -1,5 +1,6 @@
 // The piece so far: its bytes stand in a buffer, and what is longer than the buffer is no answer.
 use crate::tell::{tell, tell_refused};
+use std::io;
 
 #[derive(Clone, Copy)]
 pub struct Piece {
@@ -28,36 +29,36 @@ fn put(bytes: &mut [u8], held: usize, byte: u8) -> usize {
 }
 
 // One that fills the buffer may have lost bytes.
-fn tell_piece(bytes: &[u8], held: usize) {
+fn tell_piece(rt: &impl Print, bytes: &[u8], held: usize) -> io::Result<()> {
     let start = 0;
     if held < bytes.len() {
-        tell(&bytes[start..held]);
+        tell(rt, &bytes[start..held])
     } else {
-        tell_refused();
+        tell_refused(rt)
     }
 }
 
-pub fn take(piece: Piece, byte: u8, bytes: &mut [u8]) -> Piece {
+pub fn take(rt: &impl Print, piece: Piece, byte: u8, bytes: &mut [u8]) -> io::Result<Piece> {
     let held = put(bytes, piece.held, byte);
     if piece.returned & (byte == b'\n') {
-        tell_piece(bytes, held);
-        return none();
+        tell_piece(rt, bytes, held)?;
+        return Ok(none());
     }
-    Piece {
+    Ok(Piece {
         held,
         returned: byte == b'\r',
         closed: false,
-    }
+    })
 }
 
 // The end of the capture ends a last piece.
-pub fn close(piece: Piece, bytes: &[u8]) -> Piece {
+pub fn close(rt: &impl Print, piece: Piece, bytes: &[u8]) -> io::Result<Piece> {
     if piece.held > 0 {
-        tell_piece(bytes, piece.held);
+        tell_piece(rt, bytes, piece.held)?;
     }
-    Piece {
+    Ok(Piece {
         held: 0,
         returned: false,
         closed: true,
-    }
+    })
 }

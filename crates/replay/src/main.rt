@@ -9,74 +9,92 @@ mod words;
 
 use order::perform;
 use session::{Session, start, unknown};
+use std::io;
+use std::io::Read;
 use words::{first, put};
 
 // The line has ended. One that fills the buffer may have lost bytes.
-fn end_line(session: Session, line: &[u8], out: &mut [u8]) -> Session {
+fn end_line(rt: &impl Print, session: Session, line: &[u8], out: &mut [u8]) -> io::Result<Session> {
     let held = session.held;
     let mut next = session;
     next.held = 0;
     if held < line.len() {
-        return perform(next, first(line, held), out);
+        return perform(rt, next, first(line, held), out);
     }
-    unknown(next)
+    unknown(rt, next)
 }
 
-fn take(session: Session, byte: u8, line: &mut [u8], out: &mut [u8]) -> Session {
+fn take(
+    rt: &impl Print,
+    session: Session,
+    byte: u8,
+    line: &mut [u8],
+    out: &mut [u8],
+) -> io::Result<Session> {
     if byte == b'\n' {
-        return end_line(session, line, out);
+        return end_line(rt, session, line, out);
     }
     let mut next = session;
     next.held = put(line, session.held, byte);
-    next
+    Ok(next)
 }
 
 // Every byte of a chunk, one after the other.
-fn take_all(session: Session, chunk: &[u8], line: &mut [u8], out: &mut [u8]) -> Session {
+fn take_all(
+    rt: &impl Print,
+    session: Session,
+    chunk: &[u8],
+    line: &mut [u8],
+    out: &mut [u8],
+) -> io::Result<Session> {
     let mut latest = session;
     let mut i = 0;
     while i < chunk.len() {
         let byte = chunk[i];
         i += 1;
-        latest = take(latest, byte, line, out);
+        latest = take(rt, latest, byte, line, out)?;
     }
-    latest
+    Ok(latest)
 }
 
 // The end of the input ends a last line that has no LF; an empty one does nothing.
-fn close(session: Session, line: &[u8], out: &mut [u8]) -> Session {
-    let mut last = end_line(session, line, out);
+fn close(rt: &impl Print, session: Session, line: &[u8], out: &mut [u8]) -> io::Result<Session> {
+    let mut last = end_line(rt, session, line, out)?;
     last.closed = true;
-    last
+    Ok(last)
 }
 
 // Reads once.
-fn take_some(session: Session, line: &mut [u8], out: &mut [u8]) -> Session {
+fn take_some(
+    rt: &impl Print,
+    input: &mut impl Read,
+    session: Session,
+    line: &mut [u8],
+    out: &mut [u8],
+) -> io::Result<Session> {
     let mut chunk = [0u8; 4096];
-    let got = libc::read(0, &mut chunk);
-    if got <= 0 {
-        return close(session, line, out);
+    let n = input.read(&mut chunk)?;
+    if n < 1 {
+        return close(rt, session, line, out);
     }
-    let n = io::count(got, &chunk);
-    take_all(session, &chunk[..n], line, out)
+    take_all(rt, session, &chunk[..n], line, out)
 }
 
-// A proved loop has to end, and nothing says that an input does: it counts down from a number that no run uses up.
-fn play(line: &mut [u8], out: &mut [u8]) {
+// A proved loop has to end, and nothing says that an input does: it counts up to a number that no run reaches.
+fn play(rt: &impl Print, input: &mut impl Read, line: &mut [u8], out: &mut [u8]) -> io::Result<()> {
     let mut session = start();
-    let mut turns = u64::MAX;
-    while turns > 0 {
-        session = take_some(session, line, out);
+    for _ in 0..u64::MAX {
+        session = take_some(rt, input, session, line, out)?;
         if session.closed {
-            return;
+            return Ok(());
         }
-        turns -= 1;
     }
+    Ok(())
 }
 
 // A line has up to 65,535 bytes, and the lent buffer up to 4,096.
-fn main() {
-    let mut line = io::large_buffer();
+fn main(rt: HostRuntime) -> io::Result<()> {
+    let mut line = [0u8; 65_536];
     let mut out = [0u8; 4096];
-    play(&mut line, &mut out);
+    play(&rt, &mut rt.stdin(), &mut line, &mut out)
 }

@@ -4,6 +4,7 @@ use device::{BytesTaken, Called, power_on, take_byte, take_bytes, take_sample};
 use lent::{fill, is_spilt};
 use model::{Profile, Refusal, State, start_state};
 use profiles::profile_a;
+use std::io;
 use weight::Load;
 
 #[derive(Clone, Copy)]
@@ -44,26 +45,24 @@ pub fn start() -> Session {
 }
 
 // A line that is none of the script's, or that comes before a power-on was granted.
-pub fn unknown(session: Session) -> Session {
-    io::write_all(1, b"?\r\n");
-    session
+pub fn unknown(rt: &impl Print, session: Session) -> io::Result<Session> {
+    rt.write_all(b"?\r\n")?;
+    Ok(session)
 }
 
-fn write_refused(number: u8) {
+fn write_refused(rt: &impl Print, number: u8) -> io::Result<()> {
     let mut line = *b"refused 0\r\n";
     line[8] = number;
-    io::write_all(1, &line);
+    rt.write_all(&line)
 }
 
-fn write_outcome(refusal: Refusal, count: usize, out: &[u8]) {
+fn write_outcome(rt: &impl Print, refusal: Refusal, count: usize, out: &[u8]) -> io::Result<()> {
     match refusal {
-        Refusal::None => {
-            io::write_all(1, first(out, count));
-        }
-        Refusal::Profile => write_refused(b'1'),
-        Refusal::State => write_refused(b'2'),
-        Refusal::Room => write_refused(b'3'),
-        Refusal::Lengths => write_refused(b'5'),
+        Refusal::None => rt.write_all(first(out, count)),
+        Refusal::Profile => write_refused(rt, b'1'),
+        Refusal::State => write_refused(rt, b'2'),
+        Refusal::Room => write_refused(rt, b'3'),
+        Refusal::Lengths => write_refused(rt, b'5'),
     }
 }
 
@@ -78,18 +77,30 @@ fn is_granted(refusal: Refusal) -> bool {
 }
 
 // A byte past the answer, or any byte on a refusal, is not as before.
-fn write_spilt(granted: bool, count: usize, out: &[u8], seed: u8) {
+fn write_spilt(
+    rt: &impl Print,
+    granted: bool,
+    count: usize,
+    out: &[u8],
+    seed: u8,
+) -> io::Result<()> {
     let mut from = 0;
     if granted {
         from = count;
     }
     if is_spilt(out, seed, from) {
-        io::write_all(1, b"spilt\r\n");
+        return rt.write_all(b"spilt\r\n");
     }
+    Ok(())
 }
 
 // The state that the call returned is the next call's.
-fn after_call(session: Session, called: Called, out: &[u8]) -> Session {
+fn after_call(
+    rt: &impl Print,
+    session: Session,
+    called: Called,
+    out: &[u8],
+) -> io::Result<Session> {
     let refusal = called.refusal;
     let state = called.state;
     let granted = is_granted(refusal);
@@ -97,8 +108,8 @@ fn after_call(session: Session, called: Called, out: &[u8]) -> Session {
     next.state = state;
     next.on = session.on | granted;
     next.calls = std::num::wrapping_add_u8(session.calls, 1);
-    write_spilt(granted, called.count, out, session.calls);
-    next
+    write_spilt(rt, granted, called.count, out, session.calls)?;
+    Ok(next)
 }
 
 fn called(profile: Profile, state: State, call: Call, lent: &mut [u8]) -> Called {
@@ -112,54 +123,67 @@ fn called(profile: Profile, state: State, call: Call, lent: &mut [u8]) -> Called
 }
 
 // One call, with a buffer of the length that the script says, filled anew for it.
-pub fn make(session: Session, call: Call, out: &mut [u8]) -> Session {
+pub fn make(rt: &impl Print, session: Session, call: Call, out: &mut [u8]) -> io::Result<Session> {
     let start = 0;
     let room = session.room;
     if out.len() < room {
-        return session;
+        return Ok(session);
     }
     let profile = session.profile;
     let state = session.state;
     fill(out, session.calls);
     let returned = called(profile, state, call, &mut out[start..room]);
     let refusal = returned.refusal;
-    write_outcome(refusal, returned.count, out);
-    after_call(session, returned, out)
+    write_outcome(rt, refusal, returned.count, out)?;
+    after_call(rt, session, returned, out)
 }
 
 // Fewer bytes were taken than given.
-fn write_taken(granted: bool, taken: usize, given: usize) {
+fn write_taken(rt: &impl Print, granted: bool, taken: usize, given: usize) -> io::Result<()> {
     if granted & (taken < given) {
-        io::write_all(1, b"took ");
-        io::print_decimal(1, taken as u64);
-        io::write_all(1, b"\r\n");
+        rt.write_all(b"took ")?;
+        rt.print(taken)?;
+        return rt.write_all(b"\r\n");
     }
+    Ok(())
 }
 
-fn after_bytes(session: Session, returned: BytesTaken, given: usize, out: &[u8]) -> Session {
+fn after_bytes(
+    rt: &impl Print,
+    session: Session,
+    returned: BytesTaken,
+    given: usize,
+    out: &[u8],
+) -> io::Result<Session> {
     let refusal = returned.refusal;
     let state = returned.state;
     let count = returned.count;
-    write_outcome(refusal, count, out);
-    write_taken(is_granted(refusal), returned.taken, given);
+    write_outcome(rt, refusal, count, out)?;
+    write_taken(rt, is_granted(refusal), returned.taken, given)?;
     let called = Called {
         state,
         count,
         refusal,
     };
-    after_call(session, called, out)
+    after_call(rt, session, called, out)
 }
 
 // One call with a whole buffer of bytes and their marks, in the same way.
-pub fn make_whole(session: Session, bytes: &[u8], marks: &[u8], out: &mut [u8]) -> Session {
+pub fn make_whole(
+    rt: &impl Print,
+    session: Session,
+    bytes: &[u8],
+    marks: &[u8],
+    out: &mut [u8],
+) -> io::Result<Session> {
     let start = 0;
     let room = session.room;
     if out.len() < room {
-        return session;
+        return Ok(session);
     }
     let profile = session.profile;
     let state = session.state;
     fill(out, session.calls);
     let returned = take_bytes(profile, state, bytes, marks, &mut out[start..room]);
-    after_bytes(session, returned, bytes.len(), out)
+    after_bytes(rt, session, returned, bytes.len(), out)
 }

@@ -3,8 +3,8 @@
 
 Reads the sources of every crate that `device` uses, by crates.txt, and fails on a division or a
 remainder outside the functions of ROUNDINGS, or if one of these does not divide just once.
-Comments, ghost lines, promises (between corner brackets) and texts are not code. Then it plants
-divisions in copies of the sources, to see that each is found.
+Comments, ghost lines, the clauses of a function (`requires` and `ensures`) and texts are not code.
+Then it plants divisions in copies of the sources, to see that each is found.
 """
 import pathlib
 import re
@@ -17,10 +17,14 @@ MODULE = "device"
 ROUNDINGS = [("weight", "integer", "divide"), ("weight", "amount", "half_up")]
 
 # What is not code, the first alternatives first; then what is looked for: a division or a remainder
-# as an operator or by a name of the library, the head of a function, a brace.
-SKIPPED = r'//[^\n]*|/\*.*?\*/|ghost use [^;]*;|⌜[^⌝]*⌝|b?"(?:[^"\\]|\\.)*"|b?\'(?:[^\'\\]|\\.)\''
+# as an operator or by a name of the library, the head of a function, the head of a clause, a brace.
+SKIPPED = r'//[^\n]*|/\*.*?\*/|ghost use [^;]*;|b?"(?:[^"\\]|\\.)*"|b?\'(?:[^\'\\]|\\.)\''
+DIVIDES = (
+    r"[/%]=?|\b\w*(?:div|rem)_\w*|\b\w*_(?:div|rem)\w*\b|\b(?:Div|Rem)(?:Assign)?\b|(?<=[.:])(?:div|rem)\b"
+    r"|\b\w*(?:multiple_of|ilog|isqrt)\w*\b"
+)
 TOKEN = re.compile(
-    rf"(?P<skipped>{SKIPPED})|(?P<divides>[/%]=?|\b\w*(?:div|rem)_\w*|\b\w*_(?:div|rem)\w*\b)"
+    rf"(?P<skipped>{SKIPPED})|(?P<clause>\b(?:requires|ensures)\b\*?\s*\w*\s*{{)|(?P<divides>{DIVIDES})"
     r"|\bfn\s+(?P<name>\w+)|(?P<brace>[{}])",
     re.DOTALL,
 )
@@ -28,9 +32,14 @@ TOKEN = re.compile(
 
 def divisions(source):
     """The function in which each division or remainder of a source stands, and its line."""
-    found, function, depth = [], None, 0
+    # How many braces are open, and how many of a clause.
+    found, function, depth, clause = [], None, 0, 0
     for token in TOKEN.finditer(source):
-        if token["name"]:
+        if token["clause"]:
+            clause += 1
+        elif clause:
+            clause += {"{": 1, "}": -1}.get(token["brace"], 0)
+        elif token["name"]:
             function = token["name"]
         elif token["brace"]:
             depth += 1 if token["brace"] == "{" else -1
@@ -44,7 +53,8 @@ def uses():
     """The crates that each crate uses, by crates.txt."""
     lines = (ROOT / "crates.txt").read_text().splitlines()
     pairs = (line.split(":") for line in lines if line and not line.startswith("#"))
-    return {name: used.split() for name, used in pairs}
+    # A static library has a word after its name.
+    return {name.split()[0]: used.split() for name, used in pairs}
 
 
 def module_crates():
@@ -93,6 +103,10 @@ PLANTED = [
     (("text", "field", "decimal"), "    let mut planted = value;\n    planted /= 10;", True),
     (("device", "call", "take_sample"), "    let mut planted = 7;\n    planted %= 3;", True),
     (("commands", "perform", "line_reaction"), "    let planted = wrapping_div_u64(7, 3);", True),
+    (("commands", "perform", "line_reaction"), "    let planted = 7u64.div_ceil(3);", True),
+    (("commands", "perform", "line_reaction"), "    let planted = 7u64.div(3);", True),
+    (("commands", "perform", "line_reaction"), "    let planted = u64::rem(7, 3);", True),
+    (("commands", "perform", "line_reaction"), "    let planted = 7u64.is_multiple_of(3);", True),
     (("weight", "integer", "divide"), "    let planted = x.0 / 10;", True),
     (("weight", "integer", "divide"), "    let planted = x.0 % 10;", True),
     (("weight", "amount", "half_up"), "    let planted = value / by;", True),

@@ -97,8 +97,7 @@ pub fn added(sums: Sums, refusal: Refusal, count: usize, out: &[u8]) -> Sums {
 }
 
 // The checksum of every refusal number, count and answer.
-#[unsafe(no_mangle)]
-pub extern "C" fn proved_calls(profiles: &[u8], script: &[u8], out: &mut [u8]) -> u64 {
+pub fn proved_calls(profiles: &[u8], script: &[u8], out: &mut [u8]) -> u64 {
     let mut profile = profile_at(profiles, 0);
     let mut state = start_state();
     let mut sums = Sums { low: 0, high: 0 };

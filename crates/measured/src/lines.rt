@@ -116,8 +116,7 @@ fn with_digest(sums: Sums, digest: Digest) -> Sums {
 }
 
 // The checksum of what the reader makes of each line; the values go to `values`.
-#[unsafe(no_mangle)]
-pub extern "C" fn proved_lines(lines: &[u8], values: &mut i64) -> u64 {
+pub fn proved_lines(lines: &[u8], values: &mut i64) -> u64 {
     let mut sums = Sums { low: 0, high: 0 };
     let mut all = 0;
     let count = lines.len() / RECORD;
@@ -146,8 +145,7 @@ fn rewritten(sums: Sums, line: &[u8], out: &mut [u8]) -> Sums {
 }
 
 // The checksum of each line that was read, as the writer writes it.
-#[unsafe(no_mangle)]
-pub extern "C" fn proved_rewritten(lines: &[u8], out: &mut [u8]) -> u64 {
+pub fn proved_rewritten(lines: &[u8], out: &mut [u8]) -> u64 {
     let mut sums = Sums { low: 0, high: 0 };
     let count = lines.len() / RECORD;
     let mut k = 0;

@@ -1,5 +1,6 @@
-// The whole-buffer call behind one function on byte slices, for the benchmark. It is a crate and a static library of its own: what a
-// compiler makes of the loops of `measured` depends on how often their functions are called, and whole buffers would change it.
+// The whole-buffer call behind one function on byte slices, for the benchmark. It is a crate and, as `measured_buffers_c`, a static
+// library of its own: what a compiler makes of the loops of `measured` depends on how often their functions are called, and whole
+// buffers would change it.
 // The records are those of `measured` with one kind more, a whole buffer: its four bytes say how many bytes it has. They are the next
 // ones of two slices, the bytes and their marks, as far as these reach.
 #![tactic(auto)]
@@ -22,8 +23,7 @@ fn added_taken(sums: Sums, returned: BytesTaken, out: &[u8]) -> Sums {
 }
 
 // The checksum of every refusal number, count and answer, and of the bytes that a whole-buffer call took.
-#[unsafe(no_mangle)]
-pub extern "C" fn proved_buffers(
+pub fn proved_buffers(
     profiles: &[u8],
     script: &[u8],
     bytes: &[u8],

@@ -1,5 +1,6 @@
-// The ten characters of numbers behind one function on byte slices, for the benchmark's rows of one field by itself. It is a crate and
-// a static library of its own, as `measured_buffers` is: one caller more of the field would change what a compiler makes of the others.
+// The ten characters of numbers behind one function on byte slices, for the benchmark's rows of one field by itself. It is a crate and,
+// as `measured_fields_c`, a static library of its own, as `measured_buffers` is: one caller more of the field would change what a
+// compiler makes of the others.
 // A record of eight bytes has the decimals, whether the number is below zero, and its size, the low byte first.
 #![tactic(auto)]
 
@@ -24,8 +25,7 @@ fn field_at(numbers: &[u8], at: usize) -> Field {
 }
 
 // The checksum of each field and of whether it holds its number.
-#[unsafe(no_mangle)]
-pub extern "C" fn proved_fields(numbers: &[u8]) -> u64 {
+pub fn proved_fields(numbers: &[u8]) -> u64 {
     let mut sums = Sums { low: 0, high: 0 };
     let count = numbers.len() / RECORD;
     let mut k = 0;

@@ -1,4 +1,4 @@
-//! Links the driver, and nothing else, with the static libraries of the proved code.
+//! Links the driver, and nothing else, with the static libraries of the proved code, where tests/static_library.py puts them.
 
 use std::path::Path;
 

@@ -6,10 +6,10 @@ function refuse(form) {
     refused = 1
 }
 
-# How many words of the line are variables for a pointer.
-function variables(    words, count, i, found) {
+# How many words of the line are among the names.
+function named(names,    words, count, i, found) {
     count = split($0, words, /[ ,()]+/)
-    for (i = 1; i <= count; i++) found += words[i] in pointers
+    for (i = 1; i <= count; i++) found += words[i] in names
     return found
 }
 
@@ -17,6 +17,28 @@ function is_variable(word) {
     sub(/,$/, "", word)
     return word in pointers
 }
+
+# Whether the line is the next of four: an export begins with them for each slice from C, and 4096 then stands for a pointer that is null.
+# What is null is the same everywhere, and what the first three lines give stands nowhere else.
+function replaces_null() {
+    if (step == 0 && $0 ~ /^  %r[0-9]+ = icmp eq ptr %a[0-9]+, null$/) {
+        given = substr($6, 1, length($6) - 1)
+    } else if (step == 3 && $0 == "  " $1 " = getelementptr i8, ptr " given ", i64 " last) {
+        step = 0
+        return 1
+    } else if (!(step == 1 && $0 == "  " $1 " = zext i1 " last " to i64") && !(step == 2 && $0 == "  " $1 " = mul i64 " last ", 4096")) {
+        return 0
+    }
+    last = $1
+    between[last] = 1
+    step++
+    return 1
+}
+
+/^define/ { split("", between) }
+replaces_null() { next }
+step { step = 0; refuse("comparison of pointers") }
+named(between) { refuse("what a comparison of pointers gives") }
 
 /ptrtoint/ { refuse("ptrtoint") }
 /inttoptr/ { refuse("inttoptr") }
@@ -26,22 +48,35 @@ function is_variable(word) {
 / byval[ (]/ { refuse("byval") }
 / sret[ (]/ { refuse("sret") }
 /[ <(]i128/ { refuse("i128") }
-/x86|"(target|tune)-|"probe-stack"/ { refuse("left from x86-64") }
+/x86|"(target|tune)-|"probe-stack"|"stack-probe/ { refuse("left from x86-64") }
 
 # These four are the same everywhere.
 /@llvm\./ && !/@llvm\.(memcpy|memmove|memset|trap)[.(]/ { refuse("intrinsic") }
 
 # Steps are counted in numbers, whose size is the same everywhere.
 /getelementptr/ && !/getelementptr ((inbounds|nusw|nuw) )*\(?i[0-9]+,/ { refuse("typed getelementptr") }
-/\[[0-9]+ x ptr|<[0-9]+ x ptr|\{[^}]*ptr/ { refuse("pointers in a struct, array or vector") }
-/(load|store) (volatile |atomic )*[[{<%]/ { refuse("load or store of a struct, array or vector") }
+
+# But for what a function hands out by value, and loads to do so: a slice, or a few numbers. `module` has the compiler say that the places
+# of these fields are the same everywhere.
+{
+    plain = $0
+    gsub(/\{ ptr, i64 \}/, "slice", plain)
+    gsub(/\{ i(8|16|32|64)(, i(8|16|32|64))* \}/, "numbers", plain)
+}
+plain ~ /\[[0-9]+ x (ptr|slice)|<[0-9]+ x ptr|\{[^}]*(ptr|slice)/ { refuse("pointers in a struct, array or vector") }
+plain ~ /(load|store) (volatile |atomic )*([[{<%]|slice|numbers)/ && plain !~ /^  %r[0-9]+ = load (slice|numbers), ptr %r[0-9]+, align [0-9]+$/ {
+    refuse("load or store of a struct, array or vector")
+}
 
 # A variable for a pointer is shorter than it was, so pointers alone go in and out, and its address goes nowhere.
 /^define/ { split("", pointers) }
 / = alloca ptr/ { pointers[$1] = 1; next }
-!variables() { next }
-variables() == 1 && $3 " " $4 == "load ptr," && is_variable($6) { next }
-variables() == 1 && $1 " " $2 == "store ptr" && is_variable($5) { next }
+!named(pointers) { next }
+named(pointers) == 1 && $3 " " $4 == "load ptr," && is_variable($6) { next }
+named(pointers) == 1 && $1 " " $2 == "store ptr" && is_variable($5) { next }
 { refuse("bytes or address of a variable for a pointer") }
 
-END { exit refused }
+END {
+    if (step) refuse("comparison of pointers")
+    exit refused
+}

@@ -1,4 +1,5 @@
-//! The functions of the crates `measured`, `measured_buffers` and `measured_fields`. A slice passes as a pointer and a length.
+//! The functions of the crates `measured`, `measured_buffers` and `measured_fields`, as `measured_c` and so on export them. A slice passes
+//! as a pointer and a length.
 
 use crate::feed::Received;
 

@@ -10,7 +10,6 @@ what `rt ci` proved, and after it, in a new checkout, would prove each of them o
 and no source is newer, they are taken as they are.
 """
 import pathlib
-import shutil
 import subprocess
 import sys
 import tempfile

@@ -18,8 +18,8 @@ function is_variable(word) {
     return word in pointers
 }
 
-# Whether the line is the next of four: an export begins with them for each slice from C, and 4096 then stands for a pointer that is null.
-# What is null is the same everywhere, and what the first three lines give stands nowhere else.
+# Whether the line is the next of four. An export has them for each slice from C, and 4096 then stands where the pointer is null. What is
+# null is the same everywhere; what the first three lines give stands in no other line.
 function replaces_null() {
     if (step == 0 && $0 ~ /^  %r[0-9]+ = icmp eq ptr %a[0-9]+, null$/) {
         given = substr($6, 1, length($6) - 1)
@@ -56,17 +56,16 @@ named(between) { refuse("what a comparison of pointers gives") }
 # Steps are counted in numbers, whose size is the same everywhere.
 /getelementptr/ && !/getelementptr ((inbounds|nusw|nuw) )*\(?i[0-9]+,/ { refuse("typed getelementptr") }
 
-# But for what a function hands out by value, and loads to do so: a slice, or a few numbers. `module` has the compiler say that the places
-# of these fields are the same everywhere.
+# Where a pointer is shorter, the fields after it lie elsewhere. What a function hands out by value, and loads for that, is a slice or a
+# few numbers: these have their fields at the same places everywhere, as `module` has the compiler say.
 {
     plain = $0
     gsub(/\{ ptr, i64 \}/, "slice", plain)
     gsub(/\{ i(8|16|32|64)(, i(8|16|32|64))* \}/, "numbers", plain)
 }
 plain ~ /\[[0-9]+ x (ptr|slice)|<[0-9]+ x ptr|\{[^}]*(ptr|slice)/ { refuse("pointers in a struct, array or vector") }
-plain ~ /(load|store) (volatile |atomic )*([[{<%]|slice|numbers)/ && plain !~ /^  %r[0-9]+ = load (slice|numbers), ptr %r[0-9]+, align [0-9]+$/ {
-    refuse("load or store of a struct, array or vector")
-}
+plain ~ /^  %r[0-9]+ = load (slice|numbers), ptr %r[0-9]+, align [0-9]+$/ { plain = "" }
+plain ~ /(load|store) (volatile |atomic )*([[{<%]|slice|numbers)/ { refuse("load or store of a struct, array or vector") }
 
 # A variable for a pointer is shorter than it was, so pointers alone go in and out, and its address goes nowhere.
 /^define/ { split("", pointers) }

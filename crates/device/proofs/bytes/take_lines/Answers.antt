@@ -26,13 +26,13 @@ abbrev After-taken_bytes-then-not-emitted : Type 0
 After-taken_bytes-then-not-emitted = Lts.After-taken_bytes2 Tie.the-claims Reads.Pre Reads.Post goal.the-invariant-loop-at goal.the-decreases-loop-at Tie.handed_clauses
 
 -- the turn of a line whose answer does not fit
-abbrev stopped-turn : (c : After-taken_bytes-then-not-emitted) →
+abbrev stopped_turn : (c : After-taken_bytes-then-not-emitted) →
     let at = c.loop-at in
     let got = c.receive_run-run.result in
     (buffer : List ℕ)
     × TakenSoFar c.args.profile c.args.given (marked_bytes c.args.bytes.now c.args.marks.now) c.args.out.now
     (turn_of (with_line at.state got.line) (at.count + 0) (at.at + got.taken) true) buffer
-stopped-turn c =
+stopped_turn c =
     let at = c.loop-at in
     let got = c.receive_run-run.result in
     let now : Turn = turn_of at.state at.count at.at false in (
@@ -44,12 +44,12 @@ stopped-turn c =
     )
 
 -- the turn of a line whose answer fits
-abbrev answered-turn : (c : After-struct_known-in-loop-at-3-1) →
+abbrev answered_turn : (c : After-struct_known-in-loop-at-3-1) →
     let at = c.loop-at in
     (buffer : List ℕ)
     × TakenSoFar c.args.profile c.args.given (marked_bytes c.args.bytes.now c.args.marks.now) c.args.out.now
     (turn_of c.line_reaction-reaction.result.state (at.count + c.emit_due-emitted.result.count) (at.at + (c.receive_run-run.result.taken + 1)) false) buffer
-answered-turn c =
+answered_turn c =
     let at = c.loop-at in
     let now : Turn = turn_of at.state at.count at.at false in
     let next : Turn = turn_of c.line_reaction-reaction.result.state c.emit_due-emitted.result.count (c.receive_run-run.result.taken + 1) false in (
@@ -64,7 +64,7 @@ answered-turn c =
 taken_at : (c : After-struct_known-in-loop-at-3-1) →
     c.loop-at.at + (c.receive_run-run.result.taken + 1) ≤ length c.args.bytes.now
 taken_at c =
-    omega (arith, (answered-turn c).1.within, fewer_bytes c.args.bytes.now c.args.marks.now (omega (arith, c.requires.bytes_len)))
+    omega (arith, (answered_turn c).1.within, fewer_bytes c.args.bytes.now c.args.marks.now (omega (arith, c.requires.bytes_len)))
 
 pub overflow_add-at : goal.overflow_add-at
 overflow_add-at c =
@@ -96,12 +96,12 @@ returns-then-not-emitted c =
     let got = c.receive_run-run.result in
     taken_gives
     (rw (add-zero at.count) at (stopped_there _ _ c.args.bytes.now c.args.marks.now _ c.requires.bytes_len
-    (turn_of (with_line at.state got.line) (at.count + 0) (at.at + got.taken) true) _ refl (stopped-turn c.before).1))
+    (turn_of (with_line at.state got.line) (at.count + 0) (at.at + got.taken) true) _ refl (stopped_turn c.before).1))
     c.taken_bytes-then-not-emitted.ensures
 
 pub overflow_add-count : goal.overflow_add-count
 overflow_add-count c =
-    let turn = (answered-turn c.before).1 in
+    let turn = (answered_turn c.before).1 in
     record { fits = omega (arith, turn.written, turn.long, c.well_formed.1.1.1.1.0) }
 
 pub overflow_add-at-in-loop-at : goal.overflow_add-at-in-loop-at
@@ -110,7 +110,7 @@ overflow_add-at-in-loop-at c = record { fits = omega (arith, taken_at c.before, 
 pub loop-at-preserved : goal.loop-at-preserved
 loop-at-preserved c =
     let at = c.loop-at in
-    let turn = (answered-turn c.before).1 in (
+    let turn = (answered_turn c.before).1 in (
       omega (arith, taken_at c.before),
       turn.written,
       after_cells _ c.requires.profile_value at.state at.invariant.3.allowed at.invariant.2 _ _ c.receive_run-run.ensures refl (not-false _ c.if-not-run.false)

@@ -15,11 +15,11 @@ abbrev After-line_reaction-reaction : Type 0
 After-line_reaction-reaction = Lts.After-line_reaction Tie.the-claims Reads.Pre Reads.Post Tie.handed_clauses
 
 -- whatever the buffer made of the reaction, the call gives that
-delivered-at : (c : After-line_reaction-reaction) {r : Called} {buffer : List ℕ} →
+delivered_at : (c : After-line_reaction-reaction) {r : Called} {buffer : List ℕ} →
     let given = c.args in
     Gives (delivered given.profile given.state c.line_reaction-reaction.result given.out.now) r buffer
     → ByteCalled given.profile given.state given.byte given.faulty given.out.now r buffer
-delivered-at c promised =
+delivered_at c promised =
     byte_delivered _ _ _ _ _ c.is_profile_allowed.ensures c.if-not-is_profile_allowed.false-raw c.is_state_allowed.ensures
     c.receive_byte-received.ensures c.if-received.true c.if-not-is_state_allowed.false-raw c.line_reaction-reaction.ensures promised
 
@@ -31,11 +31,11 @@ returns-then-not-is_state_allowed c = search (rules, byte_state)
 
 pub returns-then-emitted : goal.returns-then-emitted
 returns-then-emitted c =
-    delivered-at c.before.before.before.before.before.before.before.before (sent _ _ _ _ c.emit_due-emitted.ensures.value c.emit_due-emitted.ensures.out_after c.if-emitted.true c.taken.ensures)
+    delivered_at c.before.before.before.before.before.before.before.before (sent _ _ _ _ c.emit_due-emitted.ensures.value c.emit_due-emitted.ensures.out_after c.if-emitted.true c.taken.ensures)
 
 pub returns-then-received : goal.returns-then-received
 returns-then-received c =
-    delivered-at c.before.before.before.before.before.before.before (unsent _ _ _ _ c.emit_due-emitted.ensures.value c.emit_due-emitted.ensures.out_after c.if-emitted.false c.refused-then-received.ensures)
+    delivered_at c.before.before.before.before.before.before.before (unsent _ _ _ _ c.emit_due-emitted.ensures.value c.emit_due-emitted.ensures.out_after c.if-emitted.false c.refused-then-received.ensures)
 
 pub returns : goal.returns
 returns c = search (rules, byte_silent)

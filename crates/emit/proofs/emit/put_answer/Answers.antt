@@ -45,74 +45,65 @@ unfolding line_of
 put_host_unit-requires c =
     line_room c.args.out.now (ap (λ (a : Answer). line_of a c.args.text.now) c.in-HostUnit.is) c.requires
 
-pub returns-in-Nothing-clause-value : goal.returns-in-Nothing-clause-value
+pub returns-in-Nothing : goal.returns-in-Nothing
 unfolding line_of
-returns-in-Nothing-clause-value c = (line_laid c.args.out.now (ap (λ (a : Answer). line_of a c.args.text.now) c.in-Nothing.is) (refl, refl)).0
+returns-in-Nothing c =
+    let both =
+    line_laid c.args.out.now (ap (λ (a : Answer). line_of a c.args.text.now) c.in-Nothing.is) (refl, refl) in
+    record { value = both.0; out_after = both.1 }
 
-pub returns-in-Nothing-clause-out_after : goal.returns-in-Nothing-clause-out_after
+pub returns-in-Plain : goal.returns-in-Plain
 unfolding line_of
-returns-in-Nothing-clause-out_after c = (line_laid c.args.out.now (ap (λ (a : Answer). line_of a c.args.text.now) c.in-Nothing.is) (refl, refl)).1
+returns-in-Plain c =
+    let both =
+    line_laid c.args.out.now (ap (λ (a : Answer). line_of a c.args.text.now) c.in-Plain.is) (c.put_plain.ensures.value, c.put_plain.ensures.out_after) in
+    record { value = both.0; out_after = both.1 }
 
-pub returns-in-Plain-clause-value : goal.returns-in-Plain-clause-value
+pub returns-in-Weight : goal.returns-in-Weight
 unfolding line_of
-returns-in-Plain-clause-value c = (line_laid c.args.out.now (ap (λ (a : Answer). line_of a c.args.text.now) c.in-Plain.is) (c.put_plain.ensures.value, c.put_plain.ensures.out_after)).0
+returns-in-Weight c =
+    let both =
+    line_laid c.args.out.now (ap (λ (a : Answer). line_of a c.args.text.now) c.in-Weight.is) (c.put_weight.ensures.value, c.put_weight.ensures.out_after) in
+    record { value = both.0; out_after = both.1 }
 
-pub returns-in-Plain-clause-out_after : goal.returns-in-Plain-clause-out_after
+pub returns-in-ErrorLine : goal.returns-in-ErrorLine
 unfolding line_of
-returns-in-Plain-clause-out_after c = (line_laid c.args.out.now (ap (λ (a : Answer). line_of a c.args.text.now) c.in-Plain.is) (c.put_plain.ensures.value, c.put_plain.ensures.out_after)).1
+returns-in-ErrorLine c =
+    let both =
+    line_laid c.args.out.now (ap (λ (a : Answer). line_of a c.args.text.now) c.in-ErrorLine.is) (c.put_error.ensures.value, c.put_error.ensures.out_after) in
+    record { value = both.0; out_after = both.1 }
 
-pub returns-in-Weight-clause-value : goal.returns-in-Weight-clause-value
+pub returns-in-Text : goal.returns-in-Text
 unfolding line_of
-returns-in-Weight-clause-value c = (line_laid c.args.out.now (ap (λ (a : Answer). line_of a c.args.text.now) c.in-Weight.is) (c.put_weight.ensures.value, c.put_weight.ensures.out_after)).0
+returns-in-Text c =
+    let both =
+    line_laid c.args.out.now (ap (λ (a : Answer). line_of a c.args.text.now) c.in-Text.is) (c.put_text.ensures.value, c.put_text.ensures.out_after) in
+    record { value = both.0; out_after = both.1 }
 
-pub returns-in-Weight-clause-out_after : goal.returns-in-Weight-clause-out_after
+pub returns-in-Listed : goal.returns-in-Listed
 unfolding line_of
-returns-in-Weight-clause-out_after c = (line_laid c.args.out.now (ap (λ (a : Answer). line_of a c.args.text.now) c.in-Weight.is) (c.put_weight.ensures.value, c.put_weight.ensures.out_after)).1
+returns-in-Listed c =
+    let both =
+    line_laid c.args.out.now (ap (λ (a : Answer). line_of a c.args.text.now) c.in-Listed.is) (c.put_listed.ensures.value, c.put_listed.ensures.out_after) in
+    record { value = both.0; out_after = both.1 }
 
-pub returns-in-ErrorLine-clause-value : goal.returns-in-ErrorLine-clause-value
+pub returns-in-CommandList : goal.returns-in-CommandList
 unfolding line_of
-returns-in-ErrorLine-clause-value c = (line_laid c.args.out.now (ap (λ (a : Answer). line_of a c.args.text.now) c.in-ErrorLine.is) (c.put_error.ensures.value, c.put_error.ensures.out_after)).0
+returns-in-CommandList c =
+    let both =
+    line_laid c.args.out.now (ap (λ (a : Answer). line_of a c.args.text.now) c.in-CommandList.is) (c.put_list.ensures.value, c.put_list.ensures.out_after) in
+    record { value = both.0; out_after = both.1 }
 
-pub returns-in-ErrorLine-clause-out_after : goal.returns-in-ErrorLine-clause-out_after
+pub returns-in-Versions : goal.returns-in-Versions
 unfolding line_of
-returns-in-ErrorLine-clause-out_after c = (line_laid c.args.out.now (ap (λ (a : Answer). line_of a c.args.text.now) c.in-ErrorLine.is) (c.put_error.ensures.value, c.put_error.ensures.out_after)).1
+returns-in-Versions c =
+    let both =
+    line_laid c.args.out.now (ap (λ (a : Answer). line_of a c.args.text.now) c.in-Versions.is) (c.put.ensures.value, c.put.ensures.out_after) in
+    record { value = both.0; out_after = both.1 }
 
-pub returns-in-Text-clause-value : goal.returns-in-Text-clause-value
+pub returns-in-HostUnit : goal.returns-in-HostUnit
 unfolding line_of
-returns-in-Text-clause-value c = (line_laid c.args.out.now (ap (λ (a : Answer). line_of a c.args.text.now) c.in-Text.is) (c.put_text.ensures.value, c.put_text.ensures.out_after)).0
-
-pub returns-in-Text-clause-out_after : goal.returns-in-Text-clause-out_after
-unfolding line_of
-returns-in-Text-clause-out_after c = (line_laid c.args.out.now (ap (λ (a : Answer). line_of a c.args.text.now) c.in-Text.is) (c.put_text.ensures.value, c.put_text.ensures.out_after)).1
-
-pub returns-in-Listed-clause-value : goal.returns-in-Listed-clause-value
-unfolding line_of
-returns-in-Listed-clause-value c = (line_laid c.args.out.now (ap (λ (a : Answer). line_of a c.args.text.now) c.in-Listed.is) (c.put_listed.ensures.value, c.put_listed.ensures.out_after)).0
-
-pub returns-in-Listed-clause-out_after : goal.returns-in-Listed-clause-out_after
-unfolding line_of
-returns-in-Listed-clause-out_after c = (line_laid c.args.out.now (ap (λ (a : Answer). line_of a c.args.text.now) c.in-Listed.is) (c.put_listed.ensures.value, c.put_listed.ensures.out_after)).1
-
-pub returns-in-CommandList-clause-value : goal.returns-in-CommandList-clause-value
-unfolding line_of
-returns-in-CommandList-clause-value c = (line_laid c.args.out.now (ap (λ (a : Answer). line_of a c.args.text.now) c.in-CommandList.is) (c.put_list.ensures.value, c.put_list.ensures.out_after)).0
-
-pub returns-in-CommandList-clause-out_after : goal.returns-in-CommandList-clause-out_after
-unfolding line_of
-returns-in-CommandList-clause-out_after c = (line_laid c.args.out.now (ap (λ (a : Answer). line_of a c.args.text.now) c.in-CommandList.is) (c.put_list.ensures.value, c.put_list.ensures.out_after)).1
-
-pub returns-in-Versions-clause-value : goal.returns-in-Versions-clause-value
-unfolding line_of
-returns-in-Versions-clause-value c = (line_laid c.args.out.now (ap (λ (a : Answer). line_of a c.args.text.now) c.in-Versions.is) (c.put.ensures.value, c.put.ensures.out_after)).0
-
-pub returns-in-Versions-clause-out_after : goal.returns-in-Versions-clause-out_after
-unfolding line_of
-returns-in-Versions-clause-out_after c = (line_laid c.args.out.now (ap (λ (a : Answer). line_of a c.args.text.now) c.in-Versions.is) (c.put.ensures.value, c.put.ensures.out_after)).1
-
-pub returns-in-HostUnit-clause-value : goal.returns-in-HostUnit-clause-value
-unfolding line_of
-returns-in-HostUnit-clause-value c = (line_laid c.args.out.now (ap (λ (a : Answer). line_of a c.args.text.now) c.in-HostUnit.is) (c.put_host_unit.ensures.value, c.put_host_unit.ensures.out_after)).0
-
-pub returns-in-HostUnit-clause-out_after : goal.returns-in-HostUnit-clause-out_after
-unfolding line_of
-returns-in-HostUnit-clause-out_after c = (line_laid c.args.out.now (ap (λ (a : Answer). line_of a c.args.text.now) c.in-HostUnit.is) (c.put_host_unit.ensures.value, c.put_host_unit.ensures.out_after)).1
+returns-in-HostUnit c =
+    let both =
+    line_laid c.args.out.now (ap (λ (a : Answer). line_of a c.args.text.now) c.in-HostUnit.is) (c.put_host_unit.ensures.value, c.put_host_unit.ensures.out_after) in
+    record { value = both.0; out_after = both.1 }

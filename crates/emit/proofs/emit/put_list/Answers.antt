@@ -23,8 +23,8 @@ loop-command-preserved c = (
   line_more c.args.out.now c.args.at c.loop-command.command c.loop-command.invariant.2 (c.put_listed-next.ensures.value, c.put_listed-next.ensures.out_after),
 )
 
-pub returns-clause-value : goal.returns-clause-value
-returns-clause-value c = (line_last c.args.out.now c.args.at c.loop-command.command c.loop-command.invariant.2 (omega arith)).0
-
-pub returns-clause-out_after : goal.returns-clause-out_after
-returns-clause-out_after c = (line_last c.args.out.now c.args.at c.loop-command.command c.loop-command.invariant.2 (omega arith)).1
+pub returns : goal.returns
+returns c =
+    let both =
+    line_last c.args.out.now c.args.at c.loop-command.command c.loop-command.invariant.2 (omega arith) in
+    record { value = both.0; out_after = both.1 }

@@ -17,8 +17,8 @@ pub put-requires : goal.put-requires
 put-requires c =
     room_3_of_3 c.args.out.now c.args.at (listed_pieces c.args.last c.args.command c.listed_status.result c.level_of-level.result c.listed_status.ensures c.level_of-level.ensures) (c.put-next.ensures.value, c.put-next.ensures.out_after) (c.put_name-end.ensures.value, c.put_name-end.ensures.out_after) c.requires
 
-pub returns-clause-value : goal.returns-clause-value
-returns-clause-value c = (laid_3 c.args.out.now c.args.at (listed_pieces c.args.last c.args.command c.listed_status.result c.level_of-level.result c.listed_status.ensures c.level_of-level.ensures) (c.put-next.ensures.value, c.put-next.ensures.out_after) (c.put_name-end.ensures.value, c.put_name-end.ensures.out_after) (c.put.ensures.value, c.put.ensures.out_after)).0
-
-pub returns-clause-out_after : goal.returns-clause-out_after
-returns-clause-out_after c = (laid_3 c.args.out.now c.args.at (listed_pieces c.args.last c.args.command c.listed_status.result c.level_of-level.result c.listed_status.ensures c.level_of-level.ensures) (c.put-next.ensures.value, c.put-next.ensures.out_after) (c.put_name-end.ensures.value, c.put_name-end.ensures.out_after) (c.put.ensures.value, c.put.ensures.out_after)).1
+pub returns : goal.returns
+returns c =
+    let both =
+    laid_3 c.args.out.now c.args.at (listed_pieces c.args.last c.args.command c.listed_status.result c.level_of-level.result c.listed_status.ensures c.level_of-level.ensures) (c.put-next.ensures.value, c.put-next.ensures.out_after) (c.put_name-end.ensures.value, c.put_name-end.ensures.out_after) (c.put.ensures.value, c.put.ensures.out_after) in
+    record { value = both.0; out_after = both.1 }

@@ -30,8 +30,8 @@ put-next-requires c =
 pub put_short-requires-clause-short_in_bounds : goal.put_short-requires-clause-short_in_bounds
 put_short-requires-clause-short_in_bounds c = room_3_of_3 c.args.out.now c.args.at (pieces c.before.before.before.before.before.before.before.before.before.before.before.before) (c.put-gap.ensures.value, c.put-gap.ensures.out_after) (c.put-next.ensures.value, c.put-next.ensures.out_after) c.requires
 
-pub returns-clause-value : goal.returns-clause-value
-returns-clause-value c = (laid_3 c.args.out.now c.args.at (pieces c.before.before.before.before.before.before.before.before.before.before.before.before.before.before.before.before) (c.put-gap.ensures.value, c.put-gap.ensures.out_after) (c.put-next.ensures.value, c.put-next.ensures.out_after) (c.put_short.ensures.value, c.put_short.ensures.out_after)).0
-
-pub returns-clause-out_after : goal.returns-clause-out_after
-returns-clause-out_after c = (laid_3 c.args.out.now c.args.at (pieces c.before.before.before.before.before.before.before.before.before.before.before.before.before.before.before.before) (c.put-gap.ensures.value, c.put-gap.ensures.out_after) (c.put-next.ensures.value, c.put-next.ensures.out_after) (c.put_short.ensures.value, c.put_short.ensures.out_after)).1
+pub returns : goal.returns
+returns c =
+    let both =
+    laid_3 c.args.out.now c.args.at (pieces c.before.before.before.before.before.before.before.before.before.before.before.before.before.before.before.before) (c.put-gap.ensures.value, c.put-gap.ensures.out_after) (c.put-next.ensures.value, c.put-next.ensures.out_after) (c.put_short.ensures.value, c.put_short.ensures.out_after) in
+    record { value = both.0; out_after = both.1 }

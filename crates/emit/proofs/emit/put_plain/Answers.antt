@@ -11,8 +11,8 @@ pub put-requires : goal.put-requires
 put-requires c =
     room_2_of_2 c.args.out.now c.args.at (plain_pieces c.args.head c.status_byte.result c.status_byte.ensures) (c.put_name-next.ensures.value, c.put_name-next.ensures.out_after) c.requires
 
-pub returns-clause-value : goal.returns-clause-value
-returns-clause-value c = (laid_2 c.args.out.now c.args.at (plain_pieces c.args.head c.status_byte.result c.status_byte.ensures) (c.put_name-next.ensures.value, c.put_name-next.ensures.out_after) (c.put.ensures.value, c.put.ensures.out_after)).0
-
-pub returns-clause-out_after : goal.returns-clause-out_after
-returns-clause-out_after c = (laid_2 c.args.out.now c.args.at (plain_pieces c.args.head c.status_byte.result c.status_byte.ensures) (c.put_name-next.ensures.value, c.put_name-next.ensures.out_after) (c.put.ensures.value, c.put.ensures.out_after)).1
+pub returns : goal.returns
+returns c =
+    let both =
+    laid_2 c.args.out.now c.args.at (plain_pieces c.args.head c.status_byte.result c.status_byte.ensures) (c.put_name-next.ensures.value, c.put_name-next.ensures.out_after) (c.put.ensures.value, c.put.ensures.out_after) in
+    record { value = both.0; out_after = both.1 }

@@ -16,8 +16,8 @@ pub put-requires : goal.put-requires
 put-requires c =
     room_4_of_4 c.args.out.now c.args.at (weight_pieces c.args.head (weight_text c.args.number) c.status_byte.result c.status_byte.ensures) (c.put_name-gap.ensures.value, c.put_name-gap.ensures.out_after) (c.put-next.ensures.value, c.put-next.ensures.out_after) (c.put_number-end.ensures.value, c.put_number-end.ensures.out_after) c.requires
 
-pub returns-clause-value : goal.returns-clause-value
-returns-clause-value c = (laid_4 c.args.out.now c.args.at (weight_pieces c.args.head (weight_text c.args.number) c.status_byte.result c.status_byte.ensures) (c.put_name-gap.ensures.value, c.put_name-gap.ensures.out_after) (c.put-next.ensures.value, c.put-next.ensures.out_after) (c.put_number-end.ensures.value, c.put_number-end.ensures.out_after) (c.put.ensures.value, c.put.ensures.out_after)).0
-
-pub returns-clause-out_after : goal.returns-clause-out_after
-returns-clause-out_after c = (laid_4 c.args.out.now c.args.at (weight_pieces c.args.head (weight_text c.args.number) c.status_byte.result c.status_byte.ensures) (c.put_name-gap.ensures.value, c.put_name-gap.ensures.out_after) (c.put-next.ensures.value, c.put-next.ensures.out_after) (c.put_number-end.ensures.value, c.put_number-end.ensures.out_after) (c.put.ensures.value, c.put.ensures.out_after)).1
+pub returns : goal.returns
+returns c =
+    let both =
+    laid_4 c.args.out.now c.args.at (weight_pieces c.args.head (weight_text c.args.number) c.status_byte.result c.status_byte.ensures) (c.put_name-gap.ensures.value, c.put_name-gap.ensures.out_after) (c.put-next.ensures.value, c.put-next.ensures.out_after) (c.put_number-end.ensures.value, c.put_number-end.ensures.out_after) (c.put.ensures.value, c.put.ensures.out_after) in
+    record { value = both.0; out_after = both.1 }

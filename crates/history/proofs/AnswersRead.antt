@@ -28,7 +28,7 @@ use Rattle.model.specs.declared.state.State.{State}
 use Rattle.weight.specs.declared.loads.Load.{Load}
 use Rattle.model.specs.declared.weighing.Weighing.{Weighing}
 use Rattle.model.specs.Profiles.{profile_allowed, resolution_in, scale_of, text_of20, text_of40, text_allowed20, text_allowed40}
-use Rattle.commands.specs.Reactions.{weighing, zeroing, run, changing, identification_of, performed, byte_reaction, sending_as, situation_of}
+use Rattle.commands.specs.Reactions.{run, changing, identification_of, performed, byte_reaction, sending_as, situation_of}
 use Rattle.commands.proofs.Ways.{by_choice, run_cases, change_cases, sample_cases}
 use Rattle.model.specs.declared.sending.Mode.TheVariants.{Off}
 use Rattle.model.specs.Groups.{with_line, with_sending}

@@ -3,7 +3,7 @@
 use Prim.Native.Nat.{ℕ, ◌≤◌}
 use native.Mathlib.Omega.{arith}
 use mathlib.Core.Path.{◌≡◌, refl, ap, ◌∙◌}
-use mathlib.Core.Bool.{Bool, true, false, cond, not, ◌&&◌, ◌||◌, and-true}
+use mathlib.Core.Bool.{Bool, true, false, ◌&&◌, ◌||◌, and-true}
 use mathlib.Core.List.{List, [], ◌∷◌}
 use borrow.Author.Tests.{le-leb, le-ltb, leb-true}
 use lib.IntN.{ℤ, pos, neg_ℤ, nat_abs}
@@ -47,7 +47,7 @@ use Rattle.weight.specs.declared.units.WeightUnit.{WeightUnit}
 use Rattle.weight.specs.Ranges.{ranged}
 use Rattle.weight.specs.Rounding.{allowed_resolution}
 use Rattle.weight.specs.Units.{all_units}
-use Rattle.history.specs.FineOnly.{FineOnly, FineReaction, IsFine, UnrangedAsBefore, profile_before, unit_before}
+use Rattle.history.specs.FineOnly.{FineReaction, IsFine, UnrangedAsBefore, profile_before, unit_before}
 use Rattle.history.proofs.SentAnswers.{in_limits_lem}
 use Rattle.history.proofs.TypedLines.{unranged_preset}
 

@@ -12,9 +12,9 @@ use Rattle.text.specs.Reading.{read_field}
 use Rattle.weight.specs.declared.units.WeightUnit.{WeightUnit}
 use Rattle.weight.specs.declared.units.WeightUnit.TheVariants.{G}
 use Rattle.weight.specs.Rounding.{exact_femtograms}
-use Rattle.weight.proofs.Allowed.{both_hold, both_left, both_right}
+use Rattle.weight.proofs.Allowed.{both_left, both_right}
 use Rattle.history.specs.Grams.{InGrams, is_grams, never_set, stays_in_grams, tells_grams}
-use Rattle.history.specs.Tally.{Event, Input, byte_is, sample_is, Tally, start_tally, in_force, in_force_at, chosen_tally, with_tare_of, with_unit_of, with_zero_of, taken, ends, ended, ended_text, is_reset_line, after_reset, latest_of, typed_tare, sets_unit, is_unit_line, unit_set, grants_zero, grants_tare, grants_clear, grants_typed, grants_unit, granted, is_weight_answer, is_whole, ten_of, compares, load_holds, typed_holds, unit_holds, weight_holds, tallied, holds, after_event, event_holds, accepts}
+use Rattle.history.specs.Tally.{Event, Input, byte_is, sample_is, Tally, start_tally, in_force, in_force_at, chosen_tally, with_tare_of, with_unit_of, with_zero_of, taken, ends, ended, ended_text, is_reset_line, after_reset, latest_of, typed_tare, sets_unit, unit_set, grants_zero, grants_tare, grants_clear, grants_typed, grants_unit, granted, is_weight_answer, is_whole, ten_of, compares, load_holds, typed_holds, unit_holds, weight_holds, tallied, holds, after_event, event_holds, accepts}
 use Rattle.history.proofs.Demand3.{demand3}
 
 -- ---- the unit after a call

@@ -12,7 +12,7 @@ use Rattle.model.specs.declared.state.Pending.{Pending}
 use Rattle.model.specs.declared.state.Pending.TheVariants.{Nothing, Weigh, Zero, Tare, Change}
 use Rattle.model.specs.declared.state.State.{State}
 use Rattle.model.specs.declared.weighing.Weighing.{Weighing}
-use Rattle.commands.specs.Reactions.{weighing, run, changing, reset_state, sending_as, performed}
+use Rattle.commands.specs.Reactions.{run, changing, reset_state, sending_as, performed}
 use Rattle.commands.proofs.Ways.{by_choice, run_cases}
 use Rattle.model.specs.declared.sending.Mode.TheVariants.{Off}
 use Rattle.model.specs.Groups.{with_sending, not_waiting}

@@ -20,7 +20,7 @@ use Rattle.weight.specs.declared.loads.Load.{Load}
 use Rattle.model.specs.declared.weighing.Weighing.{Weighing}
 use Rattle.device.specs.Calls.{answer_bytes}
 use Rattle.model.specs.Profiles.{profile_allowed, resolution_in, scale_of}
-use Rattle.commands.specs.Reactions.{weighing, run, changing, identification_of, reset_state, performed, sending_as, situation_of}
+use Rattle.commands.specs.Reactions.{run, changing, identification_of, reset_state, performed, sending_as, situation_of}
 use Rattle.commands.proofs.Ways.{run_cases, change_cases, sample_cases}
 use Rattle.model.specs.declared.sending.Mode.TheVariants.{Off}
 use Rattle.model.specs.Groups.{with_waiting, with_sending, reaction, chosen_reaction}

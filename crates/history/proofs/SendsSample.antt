@@ -36,7 +36,7 @@ use Rattle.weight.specs.Rounding.{allowed_resolution, in_range}
 use Rattle.weight.specs.declared.loads.Load.{Load}
 use Rattle.weight.proofs.Allowed.{neither_left, neither_right, both_hold}
 use Rattle.weight.proofs.Moves.{move_known}
-use Rattle.history.specs.OnChange.{Running, Sends, off, always, asked, running, net_in, is_over, is_under, after_awaited, after_sent, after_unasked, is_due, is_sent, unasked_holds, sends_after, sends_hold}
+use Rattle.history.specs.OnChange.{Running, Sends, off, always, running, net_in, is_over, is_under, after_awaited, after_sent, after_unasked, is_due, is_sent, unasked_holds, sends_after, sends_hold}
 use Rattle.history.specs.Tally.{Tally, gross_in, in_force, sample_is, begins}
 use Rattle.history.specs.Waits.{Waits, is_awaiting, is_empty}
 use Rattle.history.proofs.DueWeights.{tare_range, within_range}

@@ -14,7 +14,6 @@ use Rattle.model.specs.declared.profile.Profile.{Profile}
 use Rattle.model.specs.declared.weighing.Weighing.{Weighing}
 use Rattle.device.specs.Calls.{answer_bytes}
 use Rattle.model.specs.Profiles.{information_text, scale_of}
-use Rattle.model.specs.Profiles.{resolution_in}
 use Rattle.weighing.specs.Weighings.{gross_of, net_of, number_in, resolution_by, stability, in_limits, weighed, zeroed, tared, zeroed_by, weighed_by, tared_by}
 use Rattle.answer.specs.declared.answer.Number.{Number}
 use Rattle.answer.specs.declared.answer.Status.{Status}

@@ -7,7 +7,7 @@ use Rattle.model.specs.declared.profile.Profile.{Profile}
 use Rattle.profiles.specs.ProfileA.{profile_a, profile_fine, profile_ranged, profile_with}
 use Rattle.text.specs.Ascii.{ascii}
 use Rattle.weight.specs.declared.rounding.Resolution.{Resolution}
-use Rattle.weight.specs.declared.units.WeightUnit.TheVariants.{G, Mg, Ct, Oz, Gn}
+use Rattle.weight.specs.declared.units.WeightUnit.TheVariants.{Mg, Ct, Oz, Gn}
 use Rattle.history.specs.Claim.{taken_events}
 use Rattle.history.specs.EndToEnd.{host_accepts}
 use Rattle.history.specs.OnChange.{start_sender, sender_holds}

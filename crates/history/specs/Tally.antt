@@ -1,6 +1,6 @@
 -- Document 01, "The tally of demand 3", and document 02, No. 3, No. 5 and No. 7. It reads calls and answers alone, never the module's state.
 -- Assumes nothing.
-use Rattle.std.specs.Prelude.{ℕ, zero, ◌+◌, ◌-◌, ◌*◌, ◌^◌, Bool, true, false, cond, not, ◌&&◌, ◌||◌, List, [], ◌∷◌, ◌++◌, map, leb, eqb, ℤ, pos, nat_abs, ◌-ℤ◌, ◌*ℤ◌, length, take, drop}
+use Rattle.std.specs.Prelude.{ℕ, ◌+◌, ◌-◌, ◌*◌, ◌^◌, Bool, true, false, cond, not, ◌&&◌, ◌||◌, List, [], ◌∷◌, ◌++◌, map, leb, eqb, ℤ, pos, nat_abs, ◌-ℤ◌, ◌*ℤ◌, length, take, drop}
 use Rattle.model.specs.declared.profile.Profile.{Profile}
 use Rattle.model.specs.Profiles.{resolution_of}
 use Rattle.line.specs.Judging.{unit_in, is_coded, unit_of}

@@ -26,7 +26,7 @@ use Rattle.forms.proofs.Places.{plain_place, weight_place, text_place_lem, text_
 use Rattle.host.specs.Frames.{is_ended, weight_frame, error_frame, text_frame, listed_frame, host_unit_frame, frame_of}
 use Rattle.host.specs.Reads.{status_guess, error_guess, weight_guess, head_guess, field_guess, unit_guess, listed_guess, code_guess, host_unit_guess, named_guess, plain_length, guessed, text_place, text_at, confirms}
 use Rattle.host.proofs.Frames.{plain_same, weight_same, text_same, listed_same, host_unit_same, error_same}
-use Rattle.host.proofs.Shapes.{status_byte, weight_rest, quoted_end, code_rest, plain_line, weight_line, text_line, listed_line_lem, host_unit_line}
+use Rattle.host.proofs.Shapes.{status_byte, weight_rest, quoted_end, plain_line, weight_line, text_line, listed_line_lem, host_unit_line}
 use Rattle.text.specs.Searching.{before_space, after_space, has_space}
 use Rattle.text.specs.Ascii.{ascii, same_text}
 use Rattle.text.specs.Field.{field_of}

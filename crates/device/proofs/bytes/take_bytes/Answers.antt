@@ -1,7 +1,4 @@
-use mathlib.Core.Path.{sym, ◌∙◌}
 use native.Mathlib.Omega.{arith}
-use borrow.Author.Rules.{rules}
-use borrow.Author.Tests.{not-false}
 use Rattle.device.proofs.BufferRefusals.{bytes_profile, bytes_state, bytes_unequal, bytes_over, bytes_taken}
 use Rattle.device.proofs.bytes.take_bytes.Goals as goal
 

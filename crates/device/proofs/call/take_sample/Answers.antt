@@ -1,7 +1,5 @@
-use mathlib.Core.Path.{sym, ◌∙◌}
 use mathlib.Core.List.{List}
 use Prim.Native.Nat.{ℕ}
-use borrow.Author.Tests.{not-false}
 use borrow.Author.Rules.{rules}
 use Rattle.device.specs.declared.call.Called.{Called}
 use Rattle.device.specs.Calls.{delivered, Gives, SampleCalled}

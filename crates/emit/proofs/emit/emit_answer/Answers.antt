@@ -1,6 +1,5 @@
 use Rattle.answer.specs.Lines.{line_of}
 use Rattle.emit.proofs.Rooms.{no_room, with_room}
-use borrow.Author.Rules.{rules}
 use native.Mathlib.Omega.{arith}
 use Rattle.emit.proofs.emit.emit_answer.Goals as goal
 

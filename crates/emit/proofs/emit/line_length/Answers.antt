@@ -3,7 +3,6 @@ use lib.ListN.{length}
 use Rattle.answer.specs.declared.answer.Answer.{Answer}
 use Rattle.answer.specs.Lines.{line_of}
 use Rattle.answer.proofs.Lengths.{plain_length_lem, weight_length, error_length, text_length, listed_length, list_length, versions_length, unit_length}
-use borrow.Author.Rules.{rules}
 use native.Mathlib.Omega.{arith}
 use Rattle.emit.proofs.emit.line_length.Goals as goal
 

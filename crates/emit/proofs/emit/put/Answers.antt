@@ -1,10 +1,6 @@
-use mathlib.Core.Path.{◌≡◌, refl, ◌∙◌}
-use Prim.Native.Nat.{◌-◌, ◌≤◌}
 use native.Mathlib.Omega.{arith}
-use lib.ListN.{length, take, length-set}
-use lib.Seq.{sets}
-use Rattle.emit.proofs.Laying.{sets_more, sets_all}
-use borrow.Author.Rules.{rules}
+use lib.ListN.{length-set}
+use Rattle.emit.proofs.Laying.{sets_more}
 use Rattle.emit.proofs.emit.put.Goals as goal
 
 pub loop-i-preserved : goal.loop-i-preserved

@@ -1,10 +1,7 @@
-use mathlib.Core.Path.{◌≡◌, refl, ◌∙◌}
+use mathlib.Core.Path.{◌≡◌}
 use Prim.Native.Nat.{◌-◌, ◌≤◌}
-use native.Mathlib.Omega.{arith}
-use lib.ListN.{length, take, length-set}
+use lib.ListN.{length, take}
 use lib.Seq.{sets}
-use Rattle.emit.proofs.Laying.{sets_more, sets_all}
-use borrow.Author.Rules.{rules}
 use Rattle.emit.proofs.emit.put.Given as goal
 
 abbrev pub invariant-loop-i : goal.invariant-loop-i

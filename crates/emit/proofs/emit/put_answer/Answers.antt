@@ -2,7 +2,6 @@ use mathlib.Core.Path.{refl, ap}
 use Rattle.answer.specs.declared.answer.Answer.{Answer}
 use Rattle.answer.specs.Lines.{line_of}
 use Rattle.emit.proofs.Laying.{line_room, line_laid}
-use borrow.Author.Rules.{rules}
 use Rattle.emit.proofs.emit.put_answer.Goals as goal
 
 pub put_plain-requires : goal.put_plain-requires

@@ -1,9 +1,5 @@
-use mathlib.Core.Path.{◌≡◌, refl}
-use Prim.Native.Nat.{◌≤◌, ◌-◌}
+use mathlib.Core.Path.{refl}
 use native.Mathlib.Omega.{arith}
-use lib.ListN.{length}
-use Rattle.answer.specs.Commands.{command_count}
-use Rattle.emit.proofs.Laying.{Laid}
 use Rattle.emit.proofs.Listing.{listed_to, line_room, line_more, line_last}
 use borrow.Author.Rules.{rules}
 use Rattle.emit.proofs.emit.put_list.Goals as goal

@@ -1,11 +1,9 @@
-use mathlib.Core.Path.{◌≡◌, refl}
+use mathlib.Core.Path.{◌≡◌}
 use Prim.Native.Nat.{◌≤◌, ◌-◌}
-use native.Mathlib.Omega.{arith}
 use lib.ListN.{length}
 use Rattle.answer.specs.Commands.{command_count}
 use Rattle.emit.proofs.Laying.{Laid}
-use Rattle.emit.proofs.Listing.{listed_to, line_room, line_more, line_last}
-use borrow.Author.Rules.{rules}
+use Rattle.emit.proofs.Listing.{listed_to}
 use Rattle.emit.proofs.emit.put_list.Given as goal
 
 abbrev pub invariant-loop-command : goal.invariant-loop-command

@@ -1,8 +1,5 @@
 use Rattle.emit.proofs.Laying.{laid_3, room_1_of_3, room_2_of_3, room_3_of_3}
 use Rattle.emit.proofs.Lines.{listed_pieces}
-use Rattle.answer.proofs.Rows.{level_small}
-use borrow.Author.Rules.{rules}
-use native.Mathlib.Omega.{arith}
 use Rattle.emit.proofs.emit.put_listed.Goals as goal
 
 pub put-next-requires : goal.put-next-requires

@@ -1,11 +1,8 @@
 use mathlib.Core.List.{[], ◌∷◌}
 use Rattle.text.specs.Short.{text_of}
-use Rattle.text.specs.UnitTexts.{unit_text}
-use Rattle.text.proofs.Cells.{cells_enough}
 use Rattle.answer.specs.Lines.{weight_text}
 use Rattle.emit.proofs.Laying.{Three, laid_3, room_1_of_3, room_2_of_3, room_3_of_3}
 use Rattle.emit.proofs.Lines.{number_pieces}
-use borrow.Author.Rules.{rules}
 use Rattle.emit.proofs.emit.put_number.Goals as goal
 use Rattle.emit.proofs.emit.put_number.Lts
 use Rattle.emit.proofs.emit.put_number.Tie

@@ -1,6 +1,5 @@
 use Rattle.emit.proofs.Laying.{laid_2, room_1_of_2, room_2_of_2}
 use Rattle.emit.proofs.Lines.{plain_pieces}
-use borrow.Author.Rules.{rules}
 use Rattle.emit.proofs.emit.put_plain.Goals as goal
 
 pub put_name-next-requires : goal.put_name-next-requires

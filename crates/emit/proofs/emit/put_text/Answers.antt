@@ -1,7 +1,6 @@
 use Rattle.answer.specs.Commands.{name_of}
-use Rattle.emit.proofs.Laying.{laid_4, room_1_of_4, room_2_of_4, room_3_of_4, room_4_of_4}
+use Rattle.emit.proofs.Laying.{laid_4}
 use Rattle.emit.proofs.Lines.{text_pieces}
-use borrow.Author.Rules.{rules}
 use Rattle.emit.proofs.emit.put_text.Goals as goal
 
 pub returns-clause-out_after : goal.returns-clause-out_after

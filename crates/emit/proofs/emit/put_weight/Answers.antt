@@ -1,7 +1,6 @@
 use Rattle.answer.specs.Lines.{weight_text}
-use Rattle.emit.proofs.Laying.{laid_4, room_1_of_4, room_2_of_4, room_3_of_4, room_4_of_4}
+use Rattle.emit.proofs.Laying.{laid_4, room_2_of_4, room_3_of_4, room_4_of_4}
 use Rattle.emit.proofs.Lines.{weight_pieces}
-use borrow.Author.Rules.{rules}
 use Rattle.emit.proofs.emit.put_weight.Goals as goal
 
 pub put-next-requires : goal.put-next-requires

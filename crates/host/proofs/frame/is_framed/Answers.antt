@@ -1,4 +1,3 @@
-use borrow.Author.Rules.{rules}
 use Rattle.answer.specs.Lines.{line_of}
 use Rattle.host.proofs.frame.is_framed.Goals as goal
 

@@ -1,5 +1,5 @@
 use borrow.Author.Rules.{rules}
-use Rattle.host.proofs.Branches.{front_count, front_place, spaced_branch, unspaced_branch}
+use Rattle.host.proofs.Branches.{front_place, spaced_branch, unspaced_branch}
 use Rattle.host.proofs.guess.guess_answer.Goals as goal
 
 pub named_guess-requires-clause-command_value : goal.named_guess-requires-clause-command_value

@@ -1,5 +1,5 @@
 use borrow.Author.Rules.{rules}
-use Rattle.host.proofs.Branches.{plain_count, front_place}
+use Rattle.host.proofs.Branches.{front_place}
 use Rattle.host.proofs.Outcomes.{plain_read, plain_refused}
 use Rattle.host.proofs.reader.read_plain.Goals as goal
 

@@ -51,10 +51,10 @@ cd "$copy" || exit 1
 # As it stands the crate passes the compiler and the prover, so that each refusal is the edit's.
 (cd crates/weight && rt check) >said 2>&1 || fail "crates/weight is refused without an edit: $(head -n 3 said)"
 
-number='places_of(resolution, steps_of(resolution, net))'
+number='places_of(resolution, steps_of(allowed, near))'
 refused printing.rt "$number" 'places_of(resolution, net)' Micrograms DisplaySteps
 refused printing.rt "$number" "places_of(resolution, $number)" LastPlaces DisplaySteps
-refused printing.rt "$number" 'steps_of(resolution, net)' DisplaySteps LastPlaces
-refused loads.rt 'minus(gross_of(load, zero), from_tare(tare))' 'minus(gross_of(load, zero), tare)' Tare Micrograms
-refused loads.rt 'minus(from_load(load), from_load(zero))' 'minus(from_load(load), zero)' Load Micrograms
+refused printing.rt "$number" 'steps_of(allowed, near)' DisplaySteps LastPlaces
+refused loads.rt 'minus(gross_of(load, zero), Micrograms::from(tare))' 'minus(gross_of(load, zero), tare)' Tare Micrograms
+refused loads.rt 'minus(Micrograms::from(load), Micrograms::from(zero))' 'minus(Micrograms::from(load), zero)' Load Micrograms
 refused changes.rt 'Threshold(amount.0)' amount Tare Threshold

@@ -10,7 +10,8 @@ use lib.ListN.{length, take, drop, length-append}
 use Rattle.weight.specs.Characters.{digit}
 use Rattle.text.specs.Ascii.{ascii}
 use Rattle.weight.specs.Places.{fits_field}
-use Rattle.text.specs.Field.{field_of, field_if, blank}
+use Rattle.text.specs.Field.{field_if, blank}
+use Rattle.std.specs.Prelude.{unwrap_or}
 use Rattle.weight.specs.declared.units.WeightUnit.{WeightUnit}
 use Rattle.text.specs.UnitTexts.{unit_text, unit_code}
 use Rattle.text.proofs.FieldWidth.{field_length}
@@ -40,10 +41,10 @@ status_length Over = refl
 status_length Under = refl
 
 -- the field is ten characters, also of a number that does not fit
-field_ten : (c : Bool) (d : ℕ) (n : ℤ) → length (field_if (fits_field c d n) c d n).cells ≡ 10
+field_ten : (c : Bool) (d : ℕ) (n : ℤ) → length (unwrap_or (field_if (fits_field c d n) c d n) blank) ≡ 10
 field_ten c d n = go (fits_field c d n) refl
   where
-    go : (b : Bool) → fits_field c d n ≡ b → length (cond b (field_of c d n) blank) ≡ 10
+    go : (b : Bool) → fits_field c d n ≡ b → length (unwrap_or (field_if b c d n) blank) ≡ 10
     go true e = field_length c d n e
     go false e = refl
 
@@ -61,7 +62,7 @@ with_unit_lem f u h = omega (arith, length-append f (32 ∷ []), length-append (
 number_length : (n : Number) → length (weight_text n) ≡ length (unit_text n.unit) + 11
 unfolding weight_text
 number_length n =
-    with_unit_lem (field_if (fits_field n.coarse n.decimals n.places.0) n.coarse n.decimals n.places.0).cells (unit_text n.unit) (field_ten n.coarse n.decimals n.places.0)
+    with_unit_lem (unwrap_or (field_if (fits_field n.coarse n.decimals n.places.0) n.coarse n.decimals n.places.0) blank) (unit_text n.unit) (field_ten n.coarse n.decimals n.places.0)
 
 quoted_length : (t : List ℕ) → length (quoted t) ≡ length t + 2
 quoted_length t = omega (arith, length-append t (34 ∷ []))
@@ -70,6 +71,10 @@ quoted_length t = omega (arith, length-append t (34 ∷ []))
 
 with_end : (s : List ℕ) → length (s ++ line_end) ≡ length s + 2
 with_end s = length-append s line_end
+
+pub nothing_length : (t : List ℕ) → length (line_of Nothing t) ≡ 0
+unfolding line_of
+nothing_length t = refl
 
 pub plain_length_lem : (h : Head) (t : List ℕ) → length (line_of (Plain h) t) ≡ length (name_of h.identification) + 4
 unfolding line_of
@@ -148,3 +153,6 @@ list_first t = refl
 pub list_last : (t : List ℕ) → drop 231 (line_of CommandList t) ≡ ascii "I0 B 1 \"TI\"\r\nI0 A 2 \"M21\"\r\n"
 unfolding line_of listed_from listed_line
 list_last t = refl
+
+-- the length of a line, case by case
+pub ruleset line_lengths = (nothing_length, plain_length_lem, weight_length, error_length, text_length, listed_length, list_length, versions_length, unit_length)

@@ -11,6 +11,10 @@ use borrow.Author.Tests.{le-leb, lt-leb, le-ltb, ltb-true, leb-true, leb-false, 
 use lib.Dec.{leb, ltb}
 use lib.ListN.{length, get_or, get_or-map, get_or-eq_default}
 use lib.Seq.{ext_get_or}
+use denote.Ref.{Bor}
+use Rattle.std.specs.Option.{MatchOption}
+use Rattle.std.specs.Prelude.{Option, Some, None}
+use Rattle.std.specs.List.{AllWithin, HoldsAt}
 use Rattle.text.specs.Ascii.{ascii, same_text}
 use Rattle.text.proofs.Named.{same_is}
 use Rattle.weight.proofs.Allowed.{both_left, both_right, either_holds}
@@ -186,26 +190,39 @@ codes = map code_of name_rows
 abbrev pub code_in : List Name → ℕ → Name
 code_in table i = get_or table i (record { 0 = 0; 1 = 0 })
 
-code_row : (table : List Name) → table ≡ codes → (i : ℕ) → code_in table i ≡ code_of (row_at i)
+code_row : (i : ℕ) → code_in codes i ≡ code_of (row_at i)
 unfolding word_number
-code_row table t i = rw t (get_or-map code_of name_rows i no_row)
+code_row i = get_or-map code_of name_rows i no_row
 
-module _ (w : List ℕ) (key : ℕ) (table : List Name) (e : key ≡ word_number w) (t : table ≡ codes) where
+module _ (w : List ℕ) (key : ℕ) (e : key ≡ word_number w) where
   -- the row with the word's number has its place
-  pub found_row : ((k : ℕ) → get_or w k 0 < 256) → (i : ℕ) → i < length name_rows → key ≡ (code_in table i).0 → (code_in table i).1 ≡ place_of w
+  pub found_row : ((k : ℕ) → get_or w k 0 < 256) → (i : ℕ) → i < length name_rows → (code_in codes i).0 ≡ key → (code_in codes i).1 ≡ place_of w
   found_row bytes i h found =
-      let code = code_row table t i in
-      let name : (row_at i).name ≡ w = number_name w bytes i h (sym (sym e ∙ found ∙ ap (λ (n : Name). n.0) code)) in
+      let code = code_row i in
+      let name : (row_at i).name ≡ w = number_name w bytes i h (sym (sym e ∙ sym found ∙ ap (λ (n : Name). n.0) code)) in
       let place : place_of w ≡ (row_at i).place = ap place_of (sym name ∙ (row_named i h).1) ∙ name_found (row_at i).place (row_named i h).0 in
       ap (λ (n : Name). n.1) code ∙ sym place
 
   -- a word whose number no row has is no name
-  pub no_row_found : ((i : ℕ) → i < length name_rows → key ≡ (code_in table i).0 → ⊥) → command_count ≡ place_of w
+  pub no_row_found : ((i : ℕ) → i < length name_rows → (code_in codes i).0 ≡ key → ⊥) → command_count ≡ place_of w
   no_row_found none =
       ⊎_elim
       (λ last. sym last)
       (λ h.
       let at = name_row_lem (place_of w) h in
       let word : w ≡ (row_at at.0).name = sym (at.2 ∙ found_name w h) in
-      absurd (none at.0 at.1 (e ∙ ap word_number word ∙ sym (ap (λ (n : Name). n.0) (code_row table t at.0)))))
+      absurd (none at.0 at.1 (sym (e ∙ ap word_number word ∙ sym (ap (λ (n : Name). n.0) (code_row at.0))))))
       (eq-or-lt_of_le (place_limit w))
+
+  -- the place by the first row with the word's number, if there is one
+  pub found_by
+      : ((k : ℕ) → get_or w k 0 < 256)
+      → (r : Option (Bor Name)) (place : ℕ) {Q : Bor Name → Type 0}
+      → MatchOption r (AllWithin (λ n. n.0 ≡ key → ⊥) codes 0 (length codes)) (λ x. (x.now.0 ≡ key) × (i : ℕ) × (i < length codes) × HoldsAt (λ y. y ≡ x.now) codes i × AllWithin (λ n. n.0 ≡ key → ⊥) codes 0 i)
+      → MatchOption r (place ≡ command_count) Q
+      → ((x : Bor Name) → Q x → place ≡ x.now.1)
+      → place ≡ place_of w
+  found_by bytes None place none p of = p ∙ no_row_found (λ i h. none i (record { 0 = 0; 1 = 0 }) (omega arith) h)
+  found_by bytes (Some x) place first p of =
+      let row : code_in codes first.1 ≡ x.now = first.3 (record { 0 = 0; 1 = 0 }) in
+      of x p ∙ sym (ap (λ (n : Name). n.1) row) ∙ found_row bytes first.1 first.2 (ap (λ (n : Name). n.0) row ∙ first.0)

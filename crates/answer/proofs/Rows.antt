@@ -6,55 +6,13 @@ use mathlib.Core.List.{List, [], ◌∷◌}
 use Prim.Native.Nat.{ℕ, zero, suc, ◌+◌, ◌≤◌, ◌<◌, zero-le}
 use native.Mathlib.Nat.{le_of_suc-le-suc, not-suc-le-zero, add-zero, add-suc, suc-add, zero-add}
 use native.Mathlib.Omega.{arith}
-use borrow.Author.Tests.{eqb-true, eq-eqb, ne_eqb, le-leb, lt-leb, le-ltb, ltb-true, ltb-false}
+use borrow.Author.Tests.{eqb-true, eq-eqb, ne_eqb, lt-leb, le-ltb, ltb-true, ltb-false}
 use lib.Dec.{leb, ltb, eqb}
 use lib.ListN.{length, get_or, get_or-eq_default}
 use Rattle.weight.proofs.Allowed.{both_left, both_right}
 use Rattle.answer.specs.declared.command.Kind.{Kind}
 use Rattle.answer.specs.declared.command.Kind.TheVariants.{Informs, Weighs, Zeroes, Resets, Shows, Sends, Tares, Selects, Unknown}
-use Rattle.answer.specs.Commands.{
-  Command,
-  commands,
-  no_command,
-  command_count,
-  row_of,
-  level_of,
-  kind_of,
-  takes_parameters,
-  needs_sample,
-  may_wait,
-  place_i5,
-  place_s,
-  place_si,
-  place_sir,
-  place_z,
-  place_zi,
-  place_reset,
-  place_d,
-  place_dw,
-  place_sr,
-  place_t,
-  place_ta,
-  place_ti,
-  place_m21,
-  has_text,
-  is_i0,
-  is_i1,
-  is_s,
-  is_si,
-  is_sir,
-  is_z,
-  is_zi,
-  is_reset,
-  is_d,
-  is_dw,
-  is_sr,
-  is_t,
-  is_ta,
-  is_tac,
-  is_ti,
-  is_m21,
-}
+use Rattle.answer.specs.Commands.{Command, commands, no_command, command_count, row_of, level_of, kind_of, takes_parameters, needs_sample, may_wait, place_i5, place_s, place_si, place_sir, place_z, place_zi, place_reset, place_d, place_dw, place_sr, place_t, place_ta, place_ti, place_m21, has_text, is_i0, is_i1, is_s, is_si, is_sir, is_z, is_zi, is_reset, is_d, is_dw, is_sr, is_t, is_ta, is_tac, is_ti, is_m21}
 
 -- ---- a test of each row with its place, counted from i
 
@@ -217,83 +175,6 @@ kind_is =
       lt-leb c place_ti (omega arith),
       lt-leb c place_m21 (omega arith),
     ))
-
-module _ (c : ℕ) where
-  pub informs_to : c ≤ place_i5 → Informs ≡ kind_of c
-  informs_to h = rw (← (kind_is c), le-leb c place_i5 h)
-
-  module _ (i : place_i5 < c) where
-    pub weighs_to : c ≤ place_sir → Weighs ≡ kind_of c
-    weighs_to h = rw (← (kind_is c), lt-leb c place_i5 i, le-leb c place_sir h)
-
-    module _ (w : place_sir < c) where
-      pub zeroes_to : c ≤ place_zi → Zeroes ≡ kind_of c
-      zeroes_to h = rw (← (kind_is c), lt-leb c place_i5 i, lt-leb c place_sir w, le-leb c place_zi h)
-
-      module _ (z : place_zi < c) where
-        pub resets_to : c ≤ place_reset → Resets ≡ kind_of c
-        resets_to h = rw (← (kind_is c), lt-leb c place_i5 i, lt-leb c place_sir w, lt-leb c place_zi z, le-leb c place_reset h)
-
-        module _ (r : place_reset < c) where
-          pub shows_to : c ≤ place_dw → Shows ≡ kind_of c
-          shows_to h =
-              rw (← (kind_is c), lt-leb c place_i5 i, lt-leb c place_sir w, lt-leb c place_zi z, lt-leb c place_reset r, le-leb c place_dw h)
-
-          module _ (d : place_dw < c) where
-            pub sends_to : c ≤ place_sr → Sends ≡ kind_of c
-            sends_to h =
-                rw (
-                  ← (kind_is c),
-                  lt-leb c place_i5 i,
-                  lt-leb c place_sir w,
-                  lt-leb c place_zi z,
-                  lt-leb c place_reset r,
-                  lt-leb c place_dw d,
-                  le-leb c place_sr h,
-                )
-
-            module _ (s : place_sr < c) where
-              pub tares_to : c ≤ place_ti → Tares ≡ kind_of c
-              tares_to h =
-                  rw (
-                    ← (kind_is c),
-                    lt-leb c place_i5 i,
-                    lt-leb c place_sir w,
-                    lt-leb c place_zi z,
-                    lt-leb c place_reset r,
-                    lt-leb c place_dw d,
-                    lt-leb c place_sr s,
-                    le-leb c place_ti h,
-                  )
-
-              module _ (t : place_ti < c) where
-                pub selects_to : c ≤ place_m21 → Selects ≡ kind_of c
-                selects_to h =
-                    rw (
-                      ← (kind_is c),
-                      lt-leb c place_i5 i,
-                      lt-leb c place_sir w,
-                      lt-leb c place_zi z,
-                      lt-leb c place_reset r,
-                      lt-leb c place_dw d,
-                      lt-leb c place_sr s,
-                      lt-leb c place_ti t,
-                      le-leb c place_m21 h,
-                    )
-
-                pub unknown_from : place_m21 < c → Unknown ≡ kind_of c
-                unknown_from m =
-                    rw (
-                      ← (kind_is c),
-                      lt-leb c place_i5 i,
-                      lt-leb c place_sir w,
-                      lt-leb c place_zi z,
-                      lt-leb c place_reset r,
-                      lt-leb c place_dw d,
-                      lt-leb c place_sr s,
-                      lt-leb c place_ti t,
-                      lt-leb c place_m21 m,
-                    )
 
 -- ---- the commands of a kind
 

@@ -1,7 +1,7 @@
 -- The lines of an answer: document 01, "Weights" (a weight answer), "Receiving" (ES, ET, EL, I, L) and "What each command does"; document
 -- 02, No. 5 (M21).
 -- Assumes nothing.
-use Rattle.std.specs.Prelude.{ℕ, zero, suc, ◌+◌, Bool, cond, List, [], ◌∷◌, ◌++◌, eqb, length}
+use Rattle.std.specs.Prelude.{ℕ, zero, suc, Bool, cond, List, [], ◌∷◌, ◌++◌, eqb, length}
 use Rattle.answer.specs.declared.answer.Status.{Status}
 use Rattle.answer.specs.declared.answer.Status.TheVariants.{A, B, S, D, I, L, Over, Under}
 use Rattle.answer.specs.declared.answer.Head.{Head}
@@ -15,7 +15,8 @@ use Rattle.weight.specs.Characters.{digit}
 use Rattle.text.specs.Ascii.{ascii}
 use Rattle.text.specs.UnitTexts.{unit_text, unit_code}
 use Rattle.weight.specs.Places.{fits_field}
-use Rattle.text.specs.Field.{field_if}
+use Rattle.text.specs.Field.{field_if, blank}
+use Rattle.std.specs.Prelude.{unwrap_or}
 
 abbrev pub head_of : ℕ → Status → Head
 head_of c s = record { identification = c; status = s }
@@ -44,7 +45,7 @@ head_text h = name_of h.identification ++ ascii " " ++ status_text h.status
 -- ten characters, of which the last is a space in the coarse range, space, unit; ten spaces for a number that does not fit
 unfoldable pub weight_text : Number → List ℕ
 weight_text n =
-    (field_if (fits_field n.coarse n.decimals n.places.0) n.coarse n.decimals n.places.0).cells ++ ascii " " ++ unit_text n.unit
+    unwrap_or (field_if (fits_field n.coarse n.decimals n.places.0) n.coarse n.decimals n.places.0) blank ++ ascii " " ++ unit_text n.unit
 
 abbrev pub error_text : Error → List ℕ
 error_text Syntax = ascii "ES"

@@ -1,11 +1,11 @@
 // What an answer line says.
-ghost use Rattle.std.specs.Prelude.{◌≡◌};
-ghost use Rattle.answer.specs.Lines.{head_of};
+ghost use Rattle.std.specs.Prelude.{◌≡◌, [], ◌∷◌};
+ghost use Rattle.answer.specs.Lines.{head_of, status_text, error_text};
 
 use weight::{LastPlaces, WeightUnit};
 
 // The letter or sign after the identification.
-#[derive(Clone, Copy)]
+#[derive(Clone, Copy, PartialEq)]
 pub enum Status {
     A,
     B,
@@ -17,15 +17,33 @@ pub enum Status {
     Under,
 }
 
+// Its letter.
+impl From<Status> for u8 {
+    ghost from_gives = { λ s b. status_text s ≡ b ∷ [] };
+
+    fn from(status: Status) -> u8 {
+        match status {
+            Status::A => b'A',
+            Status::B => b'B',
+            Status::S => b'S',
+            Status::D => b'D',
+            Status::I => b'I',
+            Status::L => b'L',
+            Status::Over => b'+',
+            Status::Under => b'-',
+        }
+    }
+}
+
 // Identification (a command's place in the order of I0) and status.
-#[derive(Clone, Copy)]
+#[derive(Clone, Copy, PartialEq)]
 pub struct Head {
     pub identification: u8,
     pub status: Status,
 }
 
 // A printed weight, and whether it is one of the coarse range (document 02, No. 7).
-#[derive(Clone, Copy)]
+#[derive(Clone, Copy, PartialEq)]
 pub struct Number {
     pub decimals: u8,
     pub places: LastPlaces,
@@ -34,15 +52,29 @@ pub struct Number {
 }
 
 // Syntax, transmission, logical: the lines ES, ET and EL.
-#[derive(Clone, Copy)]
+#[derive(Clone, Copy, PartialEq)]
 pub enum Error {
     Syntax,
     Transmission,
     Logical,
 }
 
-#[derive(Clone, Copy)]
+// The letter after E.
+impl From<Error> for u8 {
+    ghost from_gives = { λ e b. error_text e ≡ 69 ∷ b ∷ [] };
+
+    fn from(error: Error) -> u8 {
+        match error {
+            Error::Syntax => b'S',
+            Error::Transmission => b'T',
+            Error::Logical => b'L',
+        }
+    }
+}
+
+#[derive(Clone, Copy, PartialEq)]
 pub enum Answer {
+    // Stays a case: `emit_answer` answers it by no byte, and `write_line` by refusal 4.
     Nothing,
     Plain(Head),
     Weight(Head, Number),

@@ -1,10 +1,7 @@
 // The commands, each known by its place in the order in which I0 lists them.
-ghost use Rattle.std.specs.Prelude.{◌≡◌, [], ◌∷◌, ◌≤◌, length};
+// Stays a u8: `name_of`, `level_of`, `find_command` and `emit_answer` answer every number, one that is no command's too.
+ghost use Rattle.std.specs.Prelude.{◌≡◌};
 ghost use Rattle.answer.specs.Commands.{name_of, level_of, kind_of, takes_parameters, needs_sample, may_wait, has_text};
-ghost use Rattle.text.specs.Short.{short_of};
-ghost use Rattle.text.specs.declared.short.ShortText.{ShortText};
-
-use text::ShortText;
 
 pub const I0: u8 = 0;
 
@@ -59,8 +56,8 @@ const LETTERS: usize = 38;
 pub const LIST_LENGTH: usize = NONE as usize * LISTED_LENGTH + LETTERS;
 
 // What a command does. `Sends` is SR's, which sends on change; `Selects` is M21's, which selects the unit; `Unknown` is what is no
-// command's.
-#[derive(Clone, Copy)]
+// command's; it stays a kind, since `kind_of` gives every number one.
+#[derive(Clone, Copy, PartialEq)]
 pub enum Kind {
     Informs,
     Weighs,
@@ -73,121 +70,83 @@ pub enum Kind {
     Unknown,
 }
 
-// The cells of a name one by one, and its length: the prover finds a match that makes arrays costly.
-#[derive(Clone, Copy)]
-struct Letters(u8, u8, u8, usize);
-
 // Past the end there is no name.
-fn letters_of(command: u8) -> Letters
-    ensures { ◌≡◌ {A = ShortText} (record { cells = result.0 ∷ result.1 ∷ result.2 ∷ []; len = result.3 }) (short_of (name_of command)) }
+pub fn name_of(command: u8) -> &'static [u8]
+    ensures { result.now ≡ name_of command }
 {
     match command {
-        I0 => Letters(b'I', b'0', b' ', 2),
-        I1 => Letters(b'I', b'1', b' ', 2),
-        I2 => Letters(b'I', b'2', b' ', 2),
-        I3 => Letters(b'I', b'3', b' ', 2),
-        I4 => Letters(b'I', b'4', b' ', 2),
-        I5 => Letters(b'I', b'5', b' ', 2),
-        S => Letters(b'S', b' ', b' ', 1),
-        SI => Letters(b'S', b'I', b' ', 2),
-        SIR => Letters(b'S', b'I', b'R', 3),
-        Z => Letters(b'Z', b' ', b' ', 1),
-        ZI => Letters(b'Z', b'I', b' ', 2),
-        RESET => Letters(b'@', b' ', b' ', 1),
-        D => Letters(b'D', b' ', b' ', 1),
-        DW => Letters(b'D', b'W', b' ', 2),
-        SR => Letters(b'S', b'R', b' ', 2),
-        T => Letters(b'T', b' ', b' ', 1),
-        TA => Letters(b'T', b'A', b' ', 2),
-        TAC => Letters(b'T', b'A', b'C', 3),
-        TI => Letters(b'T', b'I', b' ', 2),
-        M21 => Letters(b'M', b'2', b'1', 3),
-        _ => Letters(b' ', b' ', b' ', 0),
-    }
-}
-
-pub fn name_length(command: u8) -> usize
-    ensures value { result ≡ length (name_of command) }
-    ensures upper_bound { result ≤ 3 }
-{
-    let letters = letters_of(command);
-    letters.3
-}
-
-pub fn name_of(command: u8) -> ShortText
-    ensures { result ≡ short_of (name_of command) }
-{
-    let letters = letters_of(command);
-    ShortText {
-        cells: [letters.0, letters.1, letters.2],
-        len: letters.3,
+        I0 => b"I0",
+        I1 => b"I1",
+        I2 => b"I2",
+        I3 => b"I3",
+        I4 => b"I4",
+        I5 => b"I5",
+        S => b"S",
+        SI => b"SI",
+        SIR => b"SIR",
+        Z => b"Z",
+        ZI => b"ZI",
+        RESET => b"@",
+        D => b"D",
+        DW => b"DW",
+        SR => b"SR",
+        T => b"T",
+        TA => b"TA",
+        TAC => b"TAC",
+        TI => b"TI",
+        M21 => b"M21",
+        _ => b"",
     }
 }
 
 pub fn level_of(command: u8) -> u8
     ensures { result ≡ level_of command }
 {
-    if command < D {
-        return 0;
+    match command {
+        I0..=RESET => 0,
+        D..=TI => 1,
+        _ => 2,
     }
-    if command < M21 {
-        return 1;
-    }
-    2
 }
 
 // The commands of a kind stand together in I0's order.
 pub fn kind_of(command: u8) -> Kind
     ensures { result ≡ kind_of command }
 {
-    if command <= I5 {
-        return Kind::Informs;
+    match command {
+        I0..=I5 => Kind::Informs,
+        S..=SIR => Kind::Weighs,
+        Z..=ZI => Kind::Zeroes,
+        RESET => Kind::Resets,
+        D..=DW => Kind::Shows,
+        SR => Kind::Sends,
+        T..=TI => Kind::Tares,
+        M21 => Kind::Selects,
+        _ => Kind::Unknown,
     }
-    if command <= SIR {
-        return Kind::Weighs;
-    }
-    if command <= ZI {
-        return Kind::Zeroes;
-    }
-    if command <= RESET {
-        return Kind::Resets;
-    }
-    if command <= DW {
-        return Kind::Shows;
-    }
-    if command <= SR {
-        return Kind::Sends;
-    }
-    if command <= TI {
-        return Kind::Tares;
-    }
-    if command <= M21 {
-        return Kind::Selects;
-    }
-    Kind::Unknown
 }
 
 pub fn takes_parameters(command: u8) -> bool
     ensures { result ≡ takes_parameters command }
 {
-    (command == D) | (command == SR) | (command == TA) | (command == M21)
+    matches!(command, D | SR | TA | M21)
 }
 
 pub fn needs_sample(command: u8) -> bool
     ensures { result ≡ needs_sample command }
 {
-    (command == SI) | (command == SIR) | (command == ZI) | (command == TI)
+    matches!(command, SI | SIR | ZI | TI)
 }
 
 pub fn may_wait(command: u8) -> bool
     ensures { result ≡ may_wait command }
 {
-    (command == S) | (command == Z) | (command == SR) | (command == T)
+    matches!(command, S | Z | SR | T)
 }
 
 // I2 to I5, whose answer is a text.
 pub fn has_text(command: u8) -> bool
     ensures { result ≡ has_text command }
 {
-    (I2 <= command) & (command <= I5)
+    matches!(command, I2..=I5)
 }

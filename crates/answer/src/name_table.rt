@@ -11,7 +11,7 @@ use crate::command::{
 #[derive(Clone, Copy)]
 struct Name(u32, u8);
 
-// In byte order, a prefix before the longer name, each once.
+// In byte order, a prefix before the longer name, each once. Stays a table that is searched: names are found by their row (`name_rows`).
 const NAMES: [Name; 20] = [
     Name(0x01_40_00_00, RESET), // @
     Name(0x01_44_00_00, D), // D
@@ -38,39 +38,29 @@ const NAMES: [Name; 20] = [
 fn joined(len: u8, first: u8, second: u8, third: u8) -> u32
     ensures { result ≡ number_of len first second third }
 {
-    len as u32 * 16777216 + first as u32 * 65536 + second as u32 * 256 + third as u32
+    u32::from_be_bytes([len, first, second, third])
 }
 
 // 0 for a word without bytes and one of over three, which is no name.
+#[tactic(auto, using(crate::proofs::NameTable::one_byte, crate::proofs::NameTable::two_bytes, crate::proofs::NameTable::three_bytes, crate::proofs::NameTable::no_number_lem))]
 fn key_of(word: &[u8]) -> u32
     ensures { result ≡ word_number word.now }
 {
-    let len = word.len();
-    if len == 1 {
-        return joined(1, word[0], 0, 0);
+    match word {
+        [a] => joined(1, *a, 0, 0),
+        [a, b] => joined(2, *a, *b, 0),
+        [a, b, c] => joined(3, *a, *b, *c),
+        _ => 0,
     }
-    if len == 2 {
-        return joined(2, word[0], word[1], 0);
-    }
-    if len == 3 {
-        return joined(3, word[0], word[1], word[2]);
-    }
-    0
 }
 
 // The place of a name, and NONE for any other word.
 pub fn find_command(word: &[u8]) -> u8
     ensures { result ≡ place_of word.now }
 {
-    let names = NAMES;
     let key = key_of(word);
-    let mut i = 0;
-    while i < 20 {
-        let name = names[i];
-        if key == name.0 {
-            return name.1;
-        }
-        i += 1;
-    }
-    NONE
+    NAMES
+        .iter()
+        .find(|name| name.0 == key)
+        .map_or(NONE, |name| name.1)
 }

@@ -1,7 +1,8 @@
 // What the input line is so far. Nothing of it is kept but a sample's number, so a line may have any length.
-use script::{LoadRead, above_zero, below_zero};
+use script::{above_zero, below_zero};
+use weight::Load;
 
-#[derive(Clone, Copy)]
+#[derive(Clone, Copy, PartialEq)]
 pub enum Entry {
     Start,
     // `s`, for a stable sample, or `u`.
@@ -11,11 +12,11 @@ pub enum Entry {
     Command,
     // A letter and a space, with what there is of the load.
     Sample(Sample),
-    // No line that the program knows.
+    // No line that the program knows. Stays a case: the bytes that follow go by it as by any other.
     Other,
 }
 
-#[derive(Clone, Copy)]
+#[derive(Clone, Copy, PartialEq)]
 pub struct Sample {
     pub stable: bool,
     pub negative: bool,
@@ -40,54 +41,47 @@ fn first(byte: u8) -> Entry {
 
 fn after_letter(stable: bool, byte: u8) -> Entry {
     if byte == b' ' {
-        return Entry::Sample(Sample {
+        Entry::Sample(Sample {
             stable,
             negative: false,
             digits: 0,
             size: 0,
-        });
+        })
+    } else {
+        Entry::Other
     }
-    Entry::Other
 }
 
 fn after_arrow(byte: u8) -> Entry {
     if byte == b' ' {
-        return Entry::Command;
+        Entry::Command
+    } else {
+        Entry::Other
     }
-    Entry::Other
 }
 
 fn with_digit(sample: Sample, byte: u8) -> Entry {
-    let digits = sample.digits;
-    let size = sample.size;
-    if byte < b'0' {
-        return Entry::Other;
+    if byte.is_ascii_digit() && sample.digits < MOST_DIGITS && sample.size <= MOST_BEFORE_DIGIT {
+        Entry::Sample(Sample {
+            digits: sample.digits + 1,
+            size: sample.size * 10 + (byte - b'0') as u64,
+            ..sample
+        })
+    } else {
+        Entry::Other
     }
-    if b'9' < byte {
-        return Entry::Other;
-    }
-    if MOST_DIGITS <= digits {
-        return Entry::Other;
-    }
-    if MOST_BEFORE_DIGIT < size {
-        return Entry::Other;
-    }
-    Entry::Sample(Sample {
-        stable: sample.stable,
-        negative: sample.negative,
-        digits: digits + 1,
-        size: size * 10 + (byte - b'0') as u64,
-    })
 }
 
 // A minus stands before every digit, once.
 fn after_space(sample: Sample, byte: u8) -> Entry {
-    if (byte == b'-') & !sample.negative & (sample.digits < 1) {
-        let mut next = sample;
-        next.negative = true;
-        return Entry::Sample(next);
+    if byte == b'-' && !sample.negative && sample.digits < 1 {
+        Entry::Sample(Sample {
+            negative: true,
+            ..sample
+        })
+    } else {
+        with_digit(sample, byte)
     }
-    with_digit(sample, byte)
 }
 
 // The entry after one more byte that is no LF.
@@ -102,34 +96,12 @@ pub fn advanced(entry: Entry, byte: u8) -> Entry {
     }
 }
 
-pub fn is_command(entry: Entry) -> bool {
-    match entry {
-        Entry::Start => false,
-        Entry::Letter(_) => false,
-        Entry::Arrow => false,
-        Entry::Command => true,
-        Entry::Sample(_) => false,
-        Entry::Other => false,
-    }
-}
-
-pub fn is_start(entry: Entry) -> bool {
-    match entry {
-        Entry::Start => true,
-        Entry::Letter(_) => false,
-        Entry::Arrow => false,
-        Entry::Command => false,
-        Entry::Sample(_) => false,
-        Entry::Other => false,
-    }
-}
-
-pub fn load_of(sample: Sample) -> LoadRead {
+pub fn load_of(sample: Sample) -> Option<Load> {
     if sample.digits < 1 {
-        return LoadRead::Beyond;
+        None
+    } else if sample.negative {
+        below_zero(sample.size)
+    } else {
+        above_zero(sample.size)
     }
-    if sample.negative {
-        return below_zero(sample.size);
-    }
-    above_zero(sample.size)
 }

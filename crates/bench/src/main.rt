@@ -12,22 +12,26 @@ use std::io::Read;
 // Every byte of a chunk, one after the other.
 fn take_all(rt: &impl Print, session: Session, chunk: &[u8]) -> io::Result<Session> {
     let mut latest = session;
-    let mut i = 0;
-    while i < chunk.len() {
-        latest = take(rt, latest, chunk[i])?;
-        i += 1;
+    for byte in chunk {
+        latest = take(rt, latest, *byte)?;
     }
     Ok(latest)
 }
 
-// Reads once.
-fn take_some(rt: &impl Print, input: &mut impl Read, session: Session) -> io::Result<Session> {
+// Reads once; none at the end of the input.
+fn take_some(
+    rt: &impl Print,
+    input: &mut impl Read,
+    session: Session,
+) -> io::Result<Option<Session>> {
     let mut chunk = [0u8; 4096];
     let n = input.read(&mut chunk)?;
     if n < 1 {
-        return close(rt, session);
+        close(rt, session)?;
+        Ok(None)
+    } else {
+        Ok(Some(take_all(rt, session, &chunk[..n])?))
     }
-    take_all(rt, session, &chunk[..n])
 }
 
 // A proved loop has to end, and nothing says that an input does: it counts up to a number that no run reaches.
@@ -35,10 +39,10 @@ fn main(rt: HostRuntime) -> io::Result<()> {
     let mut input = rt.stdin();
     let mut session = on(&rt)?;
     for _ in 0..u64::MAX {
-        session = take_some(&rt, &mut input, session)?;
-        if session.closed {
+        let Some(next) = take_some(&rt, &mut input, session)? else {
             return Ok(());
-        }
+        };
+        session = next;
     }
     Ok(())
 }

@@ -1,9 +1,8 @@
 // The module and the input line so far. Each answer is written as it comes.
-use crate::entry::{Entry, Sample, advanced, is_command, is_start, load_of};
-use device::{power_on, take_byte, take_sample};
+use crate::entry::{Entry, Sample, advanced, load_of};
+use device::{Called, power_on, take_byte, take_sample};
 use model::{State, start_state};
 use profiles::profile_a;
-use script::LoadRead;
 use std::io;
 use weight::Load;
 
@@ -11,32 +10,26 @@ use weight::Load;
 pub struct Session {
     pub state: State,
     pub entry: Entry,
-    // The input has ended.
-    pub closed: bool,
 }
 
-// The first `count` bytes of the buffer are the answer.
-fn write_first(rt: &impl Print, count: usize, out: &[u8]) -> io::Result<()> {
-    let start = 0;
-    if count <= out.len() {
-        return rt.write_all(&out[start..count]);
-    }
-    Ok(())
+// One call of the module, and its answer; a refused one has none.
+fn answered<F: FnOnce(&mut [u8]) -> Called>(rt: &impl Print, call: F) -> io::Result<State>
+    requires { F.IsAlwaysCallable call }
+{
+    let mut out = [0u8; 384];
+    let called = call(&mut out);
+    let count = called.outcome.unwrap_or(0);
+    rt.write_all(out.get(..count).unwrap_or(&[]))?;
+    Ok(called.state)
 }
 
 // One good byte of a command line.
 fn fed(rt: &impl Print, state: State, byte: u8) -> io::Result<State> {
-    let mut out = [0u8; 384];
-    let called = take_byte(profile_a(), state, byte, false, &mut out);
-    write_first(rt, called.count, &out)?;
-    Ok(called.state)
+    answered(rt, |out| take_byte(profile_a(), state, byte, false, out))
 }
 
 fn sampled(rt: &impl Print, state: State, load: Load, stable: bool) -> io::Result<State> {
-    let mut out = [0u8; 384];
-    let called = take_sample(profile_a(), state, load, stable, &mut out);
-    write_first(rt, called.count, &out)?;
-    Ok(called.state)
+    answered(rt, |out| take_sample(profile_a(), state, load, stable, out))
 }
 
 fn unknown(rt: &impl Print, state: State) -> io::Result<State> {
@@ -45,77 +38,56 @@ fn unknown(rt: &impl Print, state: State) -> io::Result<State> {
 }
 
 fn weighed(rt: &impl Print, state: State, sample: Sample) -> io::Result<State> {
-    let read = load_of(sample);
-    match read {
-        LoadRead::Within(load) => sampled(rt, state, load, sample.stable),
-        LoadRead::Beyond => unknown(rt, state),
+    match load_of(sample) {
+        Some(load) => sampled(rt, state, load, sample.stable),
+        None => unknown(rt, state),
     }
 }
 
 // The input line has ended.
-fn ended(rt: &impl Print, state: State, entry: Entry) -> io::Result<State> {
-    match entry {
-        Entry::Start => unknown(rt, state),
-        Entry::Letter(_) => unknown(rt, state),
-        Entry::Arrow => unknown(rt, state),
-        Entry::Command => fed(rt, fed(rt, state, b'\r')?, b'\n'),
-        Entry::Sample(sample) => weighed(rt, state, sample),
-        Entry::Other => unknown(rt, state),
-    }
+fn ended(rt: &impl Print, session: Session) -> io::Result<Session> {
+    let state = match session.entry {
+        Entry::Command => fed(rt, fed(rt, session.state, b'\r')?, b'\n')?,
+        Entry::Sample(sample) => weighed(rt, session.state, sample)?,
+        Entry::Start | Entry::Letter(_) | Entry::Arrow | Entry::Other => {
+            unknown(rt, session.state)?
+        }
+    };
+    Ok(Session {
+        state,
+        entry: Entry::Start,
+    })
 }
 
 // Power on, and the line that it sends.
 pub fn on(rt: &impl Print) -> io::Result<Session> {
-    let mut out = [0u8; 384];
-    let called = power_on(profile_a(), start_state(), &mut out);
-    write_first(rt, called.count, &out)?;
-    let state = called.state;
     Ok(Session {
-        state,
+        state: answered(rt, |out| power_on(profile_a(), start_state(), out))?,
         entry: Entry::Start,
-        closed: false,
     })
 }
 
 // One byte of the input.
 pub fn take(rt: &impl Print, session: Session, byte: u8) -> io::Result<Session> {
-    let state = session.state;
-    let entry = session.entry;
     if byte == b'\n' {
-        return Ok(Session {
-            state: ended(rt, state, entry)?,
-            entry: Entry::Start,
-            closed: false,
-        });
+        ended(rt, session)
+    } else if session.entry == Entry::Command {
+        Ok(Session {
+            state: fed(rt, session.state, byte)?,
+            ..session
+        })
+    } else {
+        Ok(Session {
+            entry: advanced(session.entry, byte),
+            ..session
+        })
     }
-    if is_command(entry) {
-        return Ok(Session {
-            state: fed(rt, state, byte)?,
-            entry,
-            closed: false,
-        });
-    }
-    Ok(Session {
-        state,
-        entry: advanced(entry, byte),
-        closed: false,
-    })
 }
 
 // The end of the input ends a last line that has no LF.
-pub fn close(rt: &impl Print, session: Session) -> io::Result<Session> {
-    let state = session.state;
-    let entry = session.entry;
-    if is_start(entry) {
-        return Ok(Session {
-            state,
-            entry,
-            closed: true,
-        });
+pub fn close(rt: &impl Print, session: Session) -> io::Result<()> {
+    if session.entry != Entry::Start {
+        ended(rt, session)?;
     }
-    Ok(Session {
-        state: ended(rt, state, entry)?,
-        entry: Entry::Start,
-        closed: true,
-    })
+    Ok(())
 }

@@ -1,4 +1,3 @@
-mod Firsts
 mod Follows
 pub mod Texts
 pub mod Words

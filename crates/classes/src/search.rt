@@ -1,4 +1,4 @@
-// Searches through a text. A set of classes has the bit of each of its classes.
+// Searches through a text. A set of classes has the bit of each of its classes, and stays a byte: `first_in` answers every byte.
 ghost use Rattle.std.specs.Prelude.{◌≡◌, Bool};
 ghost use Rattle.classes.specs.Classes.{among, first_in};
 
@@ -26,12 +26,7 @@ fn is_among(classes: u8, byte: u8) -> bool
 pub fn first_in(text: &[u8], classes: u8) -> usize
     ensures { result ≡ first_in classes text.now }
 {
-    let mut i = 0;
-    while i < text.len() {
-        if is_among(classes, text[i]) {
-            return i;
-        }
-        i += 1;
-    }
-    i
+    text.iter()
+        .position(|byte| is_among(classes, *byte))
+        .unwrap_or(text.len())
 }

@@ -1,6 +1,4 @@
 pub mod Bytes
 mod LineVerdicts
-mod OwnRule
-mod ShownText
 pub mod StaysAllowed
 pub mod Ways

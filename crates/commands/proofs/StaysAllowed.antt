@@ -6,6 +6,7 @@ use Prim.Native.Nat.{ℕ, ◌+◌, ◌≤◌, zero-le}
 use native.Mathlib.Omega.{arith}
 use borrow.Author.Tests.{le-leb, leb-true, lt-ltb}
 use lib.Dec.{leb, ltb}
+use Rattle.std.specs.Prelude.{Some}
 use lib.IntN.{ℤ, pos, neg_ℤ, nat_abs}
 use lib.ListN.{length, take, drop}
 use lib.Seq.{take_at}
@@ -19,13 +20,13 @@ use Rattle.model.specs.declared.sending.Mode.{Mode}
 use Rattle.model.specs.declared.sending.Mode.TheVariants.{Off, EachSample, OnChange}
 use Rattle.model.specs.declared.sending.Sending.{Sending}
 use Rattle.model.specs.declared.state.Pending.{Pending}
-use Rattle.model.specs.declared.state.Pending.TheVariants.{Nothing, Weigh, Zero, Tare, Change}
+use Rattle.model.specs.declared.state.Pending.TheVariants.{Weigh, Zero, Tare, Change}
 use Rattle.model.specs.declared.state.State.{State}
 use Rattle.model.specs.declared.state.Waiting.{Waiting}
 use Rattle.weight.specs.declared.loads.Load.{Load}
 use Rattle.weight.specs.declared.units.WeightUnit.{WeightUnit}
 use Rattle.model.specs.declared.weighing.Weighing.{Weighing}
-use Rattle.model.specs.Profiles.{text_allowed20, profile_allowed}
+use Rattle.model.specs.Profiles.{text_allowed, profile_allowed}
 use Rattle.commands.specs.Reactions.{run, changing, mode_after, sending_as, weight_shown, reset_state, text_shown, performed, byte_reaction, situation_of}
 use Rattle.model.specs.Groups.{with_line, with_weighing, with_waiting, with_sending, with_mode, with_display, not_waiting}
 use Rattle.model.specs.Sendings.{is_off, is_on_change, last_allowed, threshold_allowed, change_allowed}
@@ -103,7 +104,6 @@ module _ (p : Profile) (w : Weighing) (old : InRanges p w) where
   tared_moved c = tared_by_lem (lt_z (pos p.capacity) (gross_of w)) (lt_z (gross_of w) (pos 0)) refl refl
 
   settled_moved : (pending : Pending) → Moved p w (settled p pending w).weighing
-  settled_moved Nothing = unmoved
   settled_moved Weigh = unmoved
   settled_moved Zero = zeroed_moved place_z A
   settled_moved Tare = tared_moved place_t
@@ -213,9 +213,8 @@ module _ (p : Profile) (w : Weighing) (c : Sending) (waits : Bool) (range : w.ta
       by false = h
 
   -- what a settled command keeps
-  kept_settled : (pending : Pending) → (is_change pending ≡ true → leb c.threshold.0 p.capacity ≡ true)
+  kept_settled : (pending : Pending) → (is_change (Some pending) ≡ true → leb c.threshold.0 p.capacity ≡ true)
       → change_allowed p.underload p.capacity (sending_of p pending w c) waits ≡ true
-  kept_settled Nothing ok = h
   kept_settled Weigh ok = h
   kept_settled Zero ok = h
   kept_settled Tare ok = h
@@ -260,7 +259,7 @@ module _ (p : Profile) (s : State) (h : StateTests p s) where
   with_sending_lem c e k =
       record { zero = h.zero; tare = h.tare; line = h.line; display = h.display; waiting = h.waiting; sending = e; change = k }
 
-  with_display_lem : (d : Display) → (not d.shown || text_allowed20 d.text) ≡ true → StateTests p (with_display s d)
+  with_display_lem : (d : Display) → (not d.shown || text_allowed 20 d.text) ≡ true → StateTests p (with_display s d)
   with_display_lem d e =
       record { zero = h.zero; tare = h.tare; line = h.line; display = e; waiting = h.waiting; sending = h.sending; change = h.change }
 
@@ -276,7 +275,7 @@ module _ (p : Profile) (s : State) (h : StateTests p s) where
 module _ (p : Profile) (s : State) (h : StateTests p s) where
   -- what a command makes of the latest sample
   settled_allowed : (pending : Pending) → s.weighing.sampled ≡ true
-      → (is_change pending ≡ true → leb s.sending.threshold.0 p.capacity ≡ true) → StateTests p (settled_reaction p s pending).state
+      → (is_change (Some pending) ≡ true → leb s.sending.threshold.0 p.capacity ≡ true) → StateTests p (settled_reaction p s pending).state
   unfolding settled_reaction_by
   settled_allowed pending sampled ok =
       let c : Sending = sending_of p pending s.weighing s.sending in
@@ -287,15 +286,15 @@ module _ (p : Profile) (s : State) (h : StateTests p s) where
       (settled_moved p s.weighing (ranges_of p s h) pending)
 
 module _ (p : Profile) (least : 1 ≤ p.timeout) (s : State) (h : StateTests p s) where
-  waits_anew : (pending : Pending) → (not (is_pending pending) || ltb 0 p.timeout) ≡ true
-  waits_anew pending = rw (lt-ltb 0 p.timeout (omega arith)) (or-true (not (is_pending pending)))
+  waits_anew : ltb 0 p.timeout ≡ true
+  waits_anew = lt-ltb 0 p.timeout (omega arith)
 
-  begun_allowed : (pending : Pending) → (is_change pending ≡ true → leb s.sending.threshold.0 p.capacity ≡ true) → StateTests p (begun p s pending).state
+  begun_allowed : (pending : Pending) → (is_change (Some pending) ≡ true → leb s.sending.threshold.0 p.capacity ≡ true) → StateTests p (begun p s pending).state
   unfolding begun_by
   begun_allowed pending ok =
       by_choice (λ x. StateTests p x.state) (s.weighing.sampled && s.weighing.stable)
       (λ e. settled_allowed p s h pending (both_left s.weighing.sampled s.weighing.stable e) ok)
-      (λ e. with_waiting_lem p s h (record { pending = pending; unstable = 0 }) (waits_anew pending) ok)
+      (λ e. with_waiting_lem p s h (record { pending = Some pending; unstable = 0 }) waits_anew ok)
 
 module _ (p : Profile) (least : 1 ≤ p.timeout) (s : State) (h : StateTests p s) where
   -- what S, SI, SIR and @ leave; a repetition has a sample
@@ -353,7 +352,7 @@ module _ (p : Profile) (least : 1 ≤ p.timeout) (s : State) (h : StateTests p s
       }
 
   -- a text of a line that D takes
-  shown_allowed : (l : Line) (n : ℕ) → Shown l n → text_allowed20 (text_shown s.display l n).text ≡ true
+  shown_allowed : (l : Line) (n : ℕ) → Shown l n → text_allowed 20 (text_shown s.display l n).text ≡ true
   shown_allowed l n t =
       rw (le-leb n 20 t.short, take_at (take n (drop 3 l.bytes)) (drop n s.display.text.bytes) n t.long) t.printable
 
@@ -462,16 +461,14 @@ module _ (p : Profile) (profile : profile_allowed p ≡ true) (s : State) (allow
       let within = kept_within p s.sending (is_change s.waiting.pending) h.change in
       let free : StateTests p (with_waiting t not_waiting) = with_waiting_lem p t k not_waiting refl (λ e. absurd (false≢true e)) in
       sample_cases (λ x. state_allowed p x.state ≡ true) p s z stable
-      (λ waits e.
-      tests_allow p (settled_reaction p (with_waiting t not_waiting) s.waiting.pending).state
-      (settled_allowed p (with_waiting t not_waiting) free s.waiting.pending refl within))
-      (λ waits e most. tests_allow p (with_waiting t not_waiting) free)
-      (λ waits e less.
-      let w : Waiting = record { pending = s.waiting.pending; unstable = s.waiting.unstable + 1 } in
+      (λ q waits e.
+      tests_allow p (settled_reaction p (with_waiting t not_waiting) q).state
+      (settled_allowed p (with_waiting t not_waiting) free q refl (rw waits at within)))
+      (λ q waits e most. tests_allow p (with_waiting t not_waiting) free)
+      (λ q waits e less.
+      let w : Waiting = record { pending = Some q; unstable = s.waiting.unstable + 1 } in
       tests_allow p (with_waiting t w)
-      (with_waiting_lem p t k w
-      (rw (lt-ltb (s.waiting.unstable + 1) p.timeout less) (or-true (not (is_pending s.waiting.pending))))
-      within))
+      (with_waiting_lem p t k w (lt-ltb (s.waiting.unstable + 1) p.timeout less) (rw waits at within)))
       (λ none e. tests_allow p t k)
       (λ none e. tests_allow p t k)
       (λ none e.

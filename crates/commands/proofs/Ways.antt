@@ -6,6 +6,7 @@ use Prim.Native.Nat.{ℕ, ◌+◌, ◌≤◌, ◌<◌}
 use borrow.Author.Tests.{eqb-true, leb-true, leb-false}
 use native.Mathlib.Omega.{arith}
 use lib.Dec.{leb, eqb}
+use Rattle.std.specs.Prelude.{Option, Some, None}
 use Rattle.answer.specs.Commands.{kind_of, may_wait, needs_sample, is_si, is_sir, is_zi, is_d, is_dw, is_t, is_ta, is_tac, is_ti, place_s, place_z, place_zi, place_reset, place_d, place_m21, place_sr, place_t, place_ta, place_tac, place_ti, has_text, is_i0, is_i1}
 use Rattle.answer.specs.declared.answer.Answer.TheVariants.{Plain}
 use Rattle.answer.specs.declared.answer.Answer.TheVariants as answers
@@ -19,13 +20,14 @@ use Rattle.model.specs.declared.profile.Profile.{Profile}
 use Rattle.model.specs.declared.sending.Mode.{Mode}
 use Rattle.model.specs.declared.sending.Mode.TheVariants.{Off, EachSample, OnChange}
 use Rattle.model.specs.declared.state.Pending.TheVariants.{Weigh, Zero, Tare}
+use Rattle.model.specs.declared.state.Pending.{Pending}
 use Rattle.model.specs.declared.state.State.{State}
 use Rattle.model.specs.Profiles.{scale_of}
 use Rattle.model.specs.States.{is_pending}
 use Rattle.model.specs.declared.react.Reaction.{Reaction}
 use Rattle.model.specs.Groups.{chosen_reaction, reaction, with_weighing, with_waiting, with_sending, not_waiting}
 use Rattle.waiting.specs.Changes.{gone_outside, kept_inside, sent, is_due, change_reaction, change_reaction_by}
-use Rattle.waiting.specs.Waits.{measured_reaction, place_of_pending, sampled_state, settled_reaction, begun, waited, unasked_as, sample_reaction}
+use Rattle.waiting.specs.Waits.{by_pending, measured_reaction, place_of_pending, sampled_state, settled_reaction, begun, waited, unasked_as, sample_reaction}
 use Rattle.answer.specs.Lines.{head_of}
 use Rattle.weighing.specs.Weighings.{is_outside, stability, weighed, with_tare, zeroed, tared, tare_answer}
 use Rattle.weight.specs.declared.loads.Load.{Load}
@@ -180,28 +182,33 @@ change_cases P p s told tells sends keeps =
 pub sample_cases
     : (P : Reaction → Type 0) (p : Profile) (s : State) (z : Load) (stable : Bool)
     → let t = sampled_state s z stable in
-    (is_pending s.waiting.pending ≡ true → stable ≡ true → P (settled_reaction p (with_waiting t not_waiting) s.waiting.pending))
-    → (is_pending s.waiting.pending ≡ true → stable ≡ false → p.timeout ≤ s.waiting.unstable + 1
-    → P (reaction (with_waiting t not_waiting) (answers.Plain (head_of (place_of_pending s.waiting.pending) I))))
-    → (is_pending s.waiting.pending ≡ true → stable ≡ false → s.waiting.unstable + 1 < p.timeout
-    → P (reaction (with_waiting t (record { pending = s.waiting.pending; unstable = s.waiting.unstable + 1 })) answers.Nothing))
+    ((q : Pending) → s.waiting.pending ≡ Some q → stable ≡ true → P (settled_reaction p (with_waiting t not_waiting) q))
+    → ((q : Pending) → s.waiting.pending ≡ Some q → stable ≡ false → p.timeout ≤ s.waiting.unstable + 1
+    → P (reaction (with_waiting t not_waiting) (answers.Plain (head_of (place_of_pending q) I))))
+    → ((q : Pending) → s.waiting.pending ≡ Some q → stable ≡ false → s.waiting.unstable + 1 < p.timeout
+    → P (reaction (with_waiting t (record { pending = Some q; unstable = s.waiting.unstable + 1 })) answers.Nothing))
     → (is_pending s.waiting.pending ≡ false → s.sending.mode ≡ Off → P (reaction t answers.Nothing))
     → (is_pending s.waiting.pending ≡ false → s.sending.mode ≡ EachSample → P (reaction t (weighed p t.weighing)))
     → (is_pending s.waiting.pending ≡ false → s.sending.mode ≡ OnChange → P (change_reaction p t))
     → P (sample_reaction p s z stable)
 unfolding sample_reaction waited
-sample_cases P p s z stable settles ends counts passes weighs changes =
-    by_choice P (is_pending s.waiting.pending)
-    (λ waits.
-    by_choice P stable
-    (λ e. settles waits e)
-    (λ e.
-    by_choice P (leb p.timeout (s.waiting.unstable + 1))
-    (λ most. ends waits e (leb-true p.timeout (s.waiting.unstable + 1) most))
-    (λ less. counts waits e (leb-false p.timeout (s.waiting.unstable + 1) less))))
-    (λ free. by s.sending.mode refl free)
+sample_cases P p s z stable settles ends counts passes weighs changes = by_wait s.waiting.pending refl
   where
-    by : (m : Mode) → s.sending.mode ≡ m → is_pending s.waiting.pending ≡ false → P (unasked_as m p (sampled_state s z stable))
-    by Off e free = passes free e
-    by EachSample e free = weighs free e
-    by OnChange e free = changes free e
+    t : State
+    t = sampled_state s z stable
+
+    by_mode : (m : Mode) → s.sending.mode ≡ m → is_pending s.waiting.pending ≡ false → P (unasked_as m p t)
+    by_mode Off e free = passes free e
+    by_mode EachSample e free = weighs free e
+    by_mode OnChange e free = changes free e
+
+    by_wait : (o : Option Pending) → s.waiting.pending ≡ o
+        → P (by_pending o (λ q. chosen_reaction stable (settled_reaction p (with_waiting t not_waiting) q) (waited p t q)) (unasked_as s.sending.mode p t))
+    by_wait None free = by_mode s.sending.mode refl (rw free)
+    by_wait (Some q) waits =
+        by_choice P stable
+        (λ e. settles q waits e)
+        (λ e.
+        by_choice P (leb p.timeout (s.waiting.unstable + 1))
+        (λ most. ends q waits e (leb-true p.timeout (s.waiting.unstable + 1) most))
+        (λ less. counts q waits e (leb-false p.timeout (s.waiting.unstable + 1) less)))

@@ -1,5 +1,5 @@
 // What a finished line makes of the state, by its verdict.
-ghost use Rattle.std.specs.Prelude.{◌≡◌, true, ◌++◌, ◌≤◌, length, drop};
+ghost use Rattle.std.specs.Prelude.{◌≡◌, true, ◌≤◌};
 ghost use Rattle.answer.specs.Commands.{place_d, place_m21};
 ghost use Rattle.commands.specs.Shown.{shows_short};
 ghost use Rattle.commands.specs.Reactions as meaning;
@@ -8,14 +8,14 @@ ghost use Rattle.model.specs.Profiles.{scale_of};
 ghost use Rattle.answer.specs.Lines as lines;
 ghost use Rattle.weighing.specs.Weighings as weights;
 
-use crate::run::{run, weight_shown, with_change};
+use crate::run::{run, run_changing, weight_shown};
 use answer::{Answer, D, I4, M21, S, SI, SIR, SR, Status, plain};
 use line::{Line, Situation, Verdict, cleared, judge_line};
 use model::{
-    Display, Mode, Pending, Profile, Reaction, State, Text20, answered, is_pending, resolution_in,
-    scale_of, with_display, with_line, with_mode, with_weighing,
+    Display, Mode, Profile, Reaction, State, Text, answered, is_pending, resolution_in, scale_of,
+    with_display, with_line, with_mode, with_weighing,
 };
-use waiting::{begun, not_waiting};
+use waiting::not_waiting;
 use weighing::{tare_answer, with_tare, with_unit};
 use weight::{NO_TARE, Tare, WeightUnit};
 
@@ -23,72 +23,48 @@ use weight::{NO_TARE, Tare, WeightUnit};
 fn identification_of(command: u8) -> u8
     ensures { result ≡ meaning.identification_of command }
 {
-    let weighs = (command == SI) | (command == SIR) | (command == SR);
-    if weighs {
-        return S;
+    match command {
+        SI | SIR | SR => S,
+        _ => command,
     }
-    command
 }
 
-// I: a command is waiting, or there is no sample yet.
-fn not_possible(state: State, command: u8) -> Reaction
-    ensures { result ≡ groups.reaction state (Answer.Plain (lines.head_of (meaning.identification_of command) Status.I)) }
+// Not carried out: I or L.
+fn declined(state: State, command: u8, status: Status) -> Reaction
+    ensures { result ≡ groups.reaction state (Answer.Plain (lines.head_of (meaning.identification_of command) status)) }
 {
-    answered(state, plain(identification_of(command), Status::I))
-}
-
-// L: a wrong parameter.
-fn not_understood(state: State, command: u8) -> Reaction
-    ensures { result ≡ groups.reaction state (Answer.Plain (lines.head_of (meaning.identification_of command) Status.L)) }
-{
-    answered(state, plain(identification_of(command), Status::L))
+    answered(state, plain(identification_of(command), status))
 }
 
 // @: zero, the latest sample and the unit are kept.
+#[tactic(auto, unfolding(crate::specs::Reactions::reset_state))]
 fn reset_state(state: State) -> State
     ensures { result ≡ meaning.reset_state state }
 {
-    let line = state.line;
-    let weighing = state.weighing;
-    let display = state.display;
-    let sending = state.sending;
     State {
-        line,
-        weighing: with_tare(weighing, NO_TARE),
+        weighing: with_tare(state.weighing, NO_TARE),
         waiting: not_waiting(),
-        sending: with_mode(sending, Mode::Off),
-        display: weight_shown(display),
+        sending: with_mode(state.sending, Mode::Off),
+        display: weight_shown(state.display),
+        ..state
     }
-}
-
-// The cells with a text in front.
-fn with_text(cells: [u8; 20], text: &[u8]) -> [u8; 20]
-    requires { length text.now ≤ 20 }
-    ensures { result ≡ text.now ++ drop (length text.now) cells }
-{
-    let mut bytes = cells;
-    let mut i = 0;
-    while i < text.len() {
-        bytes[i] = text[i];
-        i += 1;
-    }
-    bytes
 }
 
 // The text of D starts at the line's fourth byte, after the name, a space and a quote.
 const TEXT_START: usize = 3;
 
+// The text in front of the cells that were there.
 fn text_shown(display: Display, line: Line, len: u8) -> Display
     requires { len ≤ 20 }
     ensures { result ≡ meaning.text_shown display line len }
 {
-    let old = display.text;
-    let before = old.bytes;
-    let cells = line.bytes;
-    let end = TEXT_START + len as usize;
-    let bytes = with_text(before, &cells[TEXT_START..end]);
-    let text = Text20 { bytes, len };
-    Display { shown: true, text }
+    let count = len as usize;
+    let mut bytes = display.text.bytes;
+    bytes[..count].copy_from_slice(&line.bytes[TEXT_START..TEXT_START + count]);
+    Display {
+        shown: true,
+        text: Text { bytes, len },
+    }
 }
 
 // D with a text.
@@ -96,9 +72,8 @@ fn show_text(state: State, line: Line, len: u8) -> Reaction
     requires { len ≤ 20 }
     ensures { result ≡ groups.reaction (groups.with_display state (meaning.text_shown state.display line len)) (Answer.Plain (lines.head_of place_d Status.A)) }
 {
-    let display = state.display;
     answered(
-        with_display(state, text_shown(display, line, len)),
+        with_display(state, text_shown(state.display, line, len)),
         plain(D, Status::A),
     )
 }
@@ -107,10 +82,9 @@ fn show_text(state: State, line: Line, len: u8) -> Reaction
 fn preset(profile: Profile, state: State, tare: Tare) -> Reaction
     ensures { result ≡ groups.reaction (groups.with_weighing state (weights.with_tare state.weighing tare.0)) (weights.tare_answer (scale_of profile state.weighing) tare.0) }
 {
-    let weighing = state.weighing;
     answered(
-        with_weighing(state, with_tare(weighing, tare)),
-        tare_answer(scale_of(profile, weighing), tare),
+        with_weighing(state, with_tare(state.weighing, tare)),
+        tare_answer(scale_of(profile, state.weighing), tare),
     )
 }
 
@@ -118,9 +92,8 @@ fn preset(profile: Profile, state: State, tare: Tare) -> Reaction
 fn select(state: State, unit: WeightUnit) -> Reaction
     ensures { result ≡ groups.reaction (groups.with_weighing state (weights.with_unit state.weighing unit)) (Answer.Plain (lines.head_of place_m21 Status.A)) }
 {
-    let weighing = state.weighing;
     answered(
-        with_weighing(state, with_unit(weighing, unit)),
+        with_weighing(state, with_unit(state.weighing, unit)),
         plain(M21, Status::A),
     )
 }
@@ -130,38 +103,31 @@ fn performed(profile: Profile, state: State, line: Line, verdict: Verdict) -> Re
     requires { shows_short verdict ≡ true }
     ensures { result ≡ meaning.performed profile state line verdict }
 {
-    let weighing = state.weighing;
     match verdict {
         Verdict::Erroneous(error) => answered(state, Answer::ErrorLine(error)),
         Verdict::Reset => answered(reset_state(state), Answer::Text(I4)),
-        Verdict::Busy(command) => not_possible(state, command),
-        Verdict::Wrong(command) => not_understood(state, command),
-        Verdict::NoSample(command) => not_possible(state, command),
+        // A command is waiting, or there is no sample yet.
+        Verdict::Busy(command) | Verdict::NoSample(command) => declined(state, command, Status::I),
+        // A wrong parameter.
+        Verdict::Wrong(command) => declined(state, command, Status::L),
         Verdict::Run(command) => run(profile, state, command),
         Verdict::Preset(tare) => preset(profile, state, tare),
-        Verdict::Change(threshold) => begun(
-            scale_of(profile, weighing),
-            with_change(state, threshold),
-            Pending::Change,
-        ),
+        Verdict::Change(threshold) => run_changing(profile, state, threshold),
         Verdict::Show(len) => show_text(state, line, len),
         Verdict::Select(unit) => select(state, unit),
     }
 }
 
-// What the judging table asks of the device.
+// What the judging table asks of the device. Stays a function of two values: `From` takes one.
 fn situation_of(profile: Profile, state: State) -> Situation
     ensures { result ≡ meaning.situation_of profile state }
 {
-    let weighing = state.weighing;
-    let waiting = state.waiting;
-    let pending = waiting.pending;
     Situation {
         capacity: profile.capacity,
         fine: profile.fine,
-        resolution: resolution_in(profile, weighing),
-        waiting: is_pending(pending),
-        sampled: weighing.sampled,
+        resolution: resolution_in(profile, state.weighing),
+        waiting: is_pending(state.waiting.pending),
+        sampled: state.weighing.sampled,
     }
 }
 

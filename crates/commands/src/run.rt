@@ -18,93 +18,76 @@ use weight::{NO_TARE, NO_THRESHOLD, Threshold};
 fn information(command: u8) -> Answer
     ensures { result ≡ meaning.information_of command }
 {
-    if command == I0 {
-        return Answer::CommandList;
+    match command {
+        I0 => Answer::CommandList,
+        I1 => Answer::Versions,
+        _ if has_text(command) => Answer::Text(command),
+        _ => Answer::Nothing,
     }
-    if command == I1 {
-        return Answer::Versions;
-    }
-    if has_text(command) {
-        return Answer::Text(command);
-    }
-    Answer::Nothing
-}
-
-// I0 to I5.
-fn informed(state: State, command: u8) -> Reaction
-    ensures { result ≡ meaning.informed state command }
-{
-    answered(state, information(command))
 }
 
 // Nothing is sent unasked after S and SI, and each sample after SIR.
 fn mode_after(command: u8) -> Mode
     ensures { result ≡ meaning.mode_after command }
 {
-    if command != SIR {
-        return Mode::Off;
+    if command == SIR {
+        Mode::EachSample
+    } else {
+        Mode::Off
     }
-    Mode::EachSample
 }
 
 fn sending_as(state: State, mode: Mode) -> State
     ensures { result ≡ meaning.sending_as state mode }
 {
-    let sending = state.sending;
-    with_sending(state, with_mode(sending, mode))
+    with_sending(state, with_mode(state.sending, mode))
 }
 
 // S, SI and SIR: the first two end a repetition and SR, and the third starts a repetition.
+#[tactic(auto, unfolding(crate::specs::Reactions::weighing))]
 fn run_weighing(profile: Profile, state: State, command: u8) -> Reaction
     ensures { result ≡ meaning.weighing profile state command }
 {
-    let weighing = state.weighing;
+    let scale = scale_of(profile, state.weighing);
     if may_wait(command) {
-        return begun(
-            scale_of(profile, weighing),
-            sending_as(state, Mode::Off),
-            Pending::Weigh,
-        );
+        begun(scale, sending_as(state, Mode::Off), Some(Pending::Weigh))
+    } else {
+        answered(
+            sending_as(state, mode_after(command)),
+            weighed_by(scale, state.weighing),
+        )
     }
-    answered(
-        sending_as(state, mode_after(command)),
-        weighed_by(scale_of(profile, weighing), weighing),
-    )
 }
 
 // Z and ZI.
+#[tactic(auto, unfolding(crate::specs::Reactions::zeroing))]
 fn run_zeroing(profile: Profile, state: State, command: u8) -> Reaction
     ensures { result ≡ meaning.zeroing profile state command }
 {
     let weighing = state.weighing;
+    let scale = scale_of(profile, weighing);
     if may_wait(command) {
-        return begun(scale_of(profile, weighing), state, Pending::Zero);
+        begun(scale, state, Some(Pending::Zero))
+    } else {
+        measured_reaction(state, zeroed_by(scale, weighing, ZI, stability(weighing)))
     }
-    measured_reaction(
-        state,
-        zeroed_by(
-            scale_of(profile, weighing),
-            weighing,
-            ZI,
-            stability(weighing),
-        ),
-    )
 }
 
 pub fn weight_shown(display: Display) -> Display
     ensures { result ≡ meaning.weight_shown display }
 {
-    let text = display.text;
-    Display { shown: false, text }
+    Display {
+        shown: false,
+        ..display
+    }
 }
 
 // DW.
 fn show_weight(state: State) -> Reaction
     ensures { result ≡ meaning.showing_weight state }
 {
-    let display = state.display;
     answered(
-        with_display(state, weight_shown(display)),
+        with_display(state, weight_shown(state.display)),
         plain(DW, Status::A),
     )
 }
@@ -117,72 +100,62 @@ fn unanswered(state: State) -> Reaction
 }
 
 // D, which has a verdict of its own, and DW.
+#[tactic(auto, unfolding(crate::specs::Reactions::showing))]
 fn run_showing(state: State, command: u8) -> Reaction
     ensures { result ≡ meaning.showing state command }
 {
     if command == DW {
-        return show_weight(state);
+        show_weight(state)
+    } else {
+        unanswered(state)
     }
-    unanswered(state)
 }
 
-// SR comes with its threshold, before it is judged or waits.
-pub fn with_change(state: State, threshold: Threshold) -> State
-    ensures { result ≡ groups.with_sending state (changes.with_threshold state.sending threshold.0) }
+// SR, with its threshold.
+#[tactic(auto, unfolding(crate::specs::Reactions::changing))]
+pub fn run_changing(profile: Profile, state: State, threshold: Threshold) -> Reaction
+    ensures { result ≡ meaning.changing profile state threshold.0 }
 {
-    let sending = state.sending;
-    with_sending(state, with_threshold(sending, threshold))
+    begun(
+        scale_of(profile, state.weighing),
+        with_sending(state, with_threshold(state.sending, threshold)),
+        Some(Pending::Change),
+    )
 }
 
 // T, TI, TAC and TA alone.
+#[tactic(auto, unfolding(crate::specs::Reactions::taring))]
 fn run_taring(profile: Profile, state: State, command: u8) -> Reaction
     ensures { result ≡ meaning.taring profile state command }
 {
     let weighing = state.weighing;
-    if command == T {
-        return begun(scale_of(profile, weighing), state, Pending::Tare);
+    let scale = scale_of(profile, weighing);
+    match command {
+        T => begun(scale, state, Some(Pending::Tare)),
+        TI => measured_reaction(state, tared_by(scale, weighing, TI)),
+        TAC => answered(
+            with_weighing(state, with_tare(weighing, NO_TARE)),
+            plain(TAC, Status::A),
+        ),
+        TA => answered(state, tare_answer(scale, weighing.tare)),
+        _ => unanswered(state),
     }
-    if command == TI {
-        return measured_reaction(state, tared_by(scale_of(profile, weighing), weighing, TI));
-    }
-    if command == TAC {
-        let cleared = with_tare(weighing, NO_TARE);
-        return answered(with_weighing(state, cleared), plain(TAC, Status::A));
-    }
-    if command == TA {
-        let tare = weighing.tare;
-        return answered(state, tare_answer(scale_of(profile, weighing), tare));
-    }
-    unanswered(state)
 }
 
-// M21 alone.
-fn tell_unit(state: State) -> Reaction
-    ensures { result ≡ meaning.unit_told state }
-{
-    let weighing = state.weighing;
-    let unit = weighing.unit;
-    answered(state, Answer::HostUnit(unit))
-}
-
+// Stays a u8: what is no command's identification is not answered (`run` of specs/Reactions).
+#[tactic(auto, unfolding(crate::specs::Reactions::run))]
 pub fn run(profile: Profile, state: State, command: u8) -> Reaction
     ensures { result ≡ meaning.run profile state command }
 {
-    let weighing = state.weighing;
-    let kind = kind_of(command);
-    match kind {
-        Kind::Informs => informed(state, command),
+    match kind_of(command) {
+        Kind::Informs => answered(state, information(command)),
         Kind::Weighs => run_weighing(profile, state, command),
         Kind::Zeroes => run_zeroing(profile, state, command),
-        Kind::Resets => unanswered(state),
         Kind::Shows => run_showing(state, command),
-        Kind::Sends => begun(
-            scale_of(profile, weighing),
-            with_change(state, NO_THRESHOLD),
-            Pending::Change,
-        ),
+        Kind::Sends => run_changing(profile, state, NO_THRESHOLD),
         Kind::Tares => run_taring(profile, state, command),
-        Kind::Selects => tell_unit(state),
-        Kind::Unknown => unanswered(state),
+        // M21 alone.
+        Kind::Selects => answered(state, Answer::HostUnit(state.weighing.unit)),
+        Kind::Resets | Kind::Unknown => unanswered(state),
     }
 }

@@ -1,64 +1,53 @@
-// The piece so far: its bytes stand in a buffer, and what is longer than the buffer is no answer.
+// The piece so far: what is longer than its buffer is no answer, none of which has more than 49 bytes.
 use crate::tell::{tell, tell_refused};
 use std::io;
 
-#[derive(Clone, Copy)]
+#[derive(Drop)]
 pub struct Piece {
-    pub held: usize,
+    bytes: [u8; 64],
+    held: usize,
     // Its last byte is CR.
-    pub returned: bool,
-    // The capture has ended.
-    pub closed: bool,
+    returned: bool,
 }
 
-pub fn none() -> Piece {
-    Piece {
-        held: 0,
-        returned: false,
-        closed: false,
+impl Piece {
+    pub fn new() -> Piece {
+        Piece {
+            bytes: [0; 64],
+            held: 0,
+            returned: false,
+        }
     }
-}
 
-// The next byte, as long as there is room for one more.
-fn put(bytes: &mut [u8], held: usize, byte: u8) -> usize {
-    if held < bytes.len() {
-        bytes[held] = byte;
-        return held + 1;
+    // One that fills the buffer may have lost bytes.
+    fn tell(&self, rt: &impl Print) -> io::Result<()> {
+        if self.held < self.bytes.len() {
+            tell(rt, &self.bytes[..self.held])
+        } else {
+            tell_refused(rt)
+        }
     }
-    held
-}
 
-// One that fills the buffer may have lost bytes.
-fn tell_piece(rt: &impl Print, bytes: &[u8], held: usize) -> io::Result<()> {
-    let start = 0;
-    if held < bytes.len() {
-        tell(rt, &bytes[start..held])
-    } else {
-        tell_refused(rt)
+    // The next byte, as long as there is room for one more.
+    pub fn take(&mut self, rt: &impl Print, byte: u8) -> io::Result<()> {
+        if let Some(place) = self.bytes.get_mut(self.held) {
+            *place = byte;
+            self.held += 1;
+        }
+        if self.returned && byte == b'\n' {
+            self.tell(rt)?;
+            self.held = 0;
+        }
+        self.returned = byte == b'\r';
+        Ok(())
     }
-}
 
-pub fn take(rt: &impl Print, piece: Piece, byte: u8, bytes: &mut [u8]) -> io::Result<Piece> {
-    let held = put(bytes, piece.held, byte);
-    if piece.returned & (byte == b'\n') {
-        tell_piece(rt, bytes, held)?;
-        return Ok(none());
+    // The end of the capture ends a last piece.
+    pub fn close(&self, rt: &impl Print) -> io::Result<()> {
+        if self.held == 0 {
+            Ok(())
+        } else {
+            self.tell(rt)
+        }
     }
-    Ok(Piece {
-        held,
-        returned: byte == b'\r',
-        closed: false,
-    })
-}
-
-// The end of the capture ends a last piece.
-pub fn close(rt: &impl Print, piece: Piece, bytes: &[u8]) -> io::Result<Piece> {
-    if piece.held > 0 {
-        tell_piece(rt, bytes, piece.held)?;
-    }
-    Ok(Piece {
-        held: 0,
-        returned: false,
-        closed: true,
-    })
 }

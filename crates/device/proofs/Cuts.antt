@@ -20,7 +20,7 @@ use Rattle.model.specs.Profiles.{profile_allowed}
 use Rattle.model.specs.States.{state_allowed}
 use Rattle.device.specs.declared.bytes.BytesTaken.{BytesTaken}
 use Rattle.device.specs.Calls.{Outcome, answer_bytes, delivered, of_profile, of_state, byte_outcome}
-use Rattle.device.specs.Buffers.{BytesOutcome, Singly, answer_in, room_after, chosen_singly, joined, lengths_allowed, none_taken, with_answer, singly, served, taken_singly, BytesCalled, none, next, CutsAlike}
+use Rattle.device.specs.Buffers.{BytesOutcome, Singly, answer_in, room_after, chosen_singly, counts_of, joined, lengths_allowed, none_taken, with_answer, singly, served, taken_singly, BytesCalled, none, next, CutsAlike}
 use Rattle.device.proofs.Turns.{after_answers}
 use Rattle.device.proofs.Taking.{served_next, after_none, after_after}
 use Rattle.device.proofs.Took.{TookSingly, took_singly, taken_within}
@@ -158,20 +158,20 @@ module _ (p : Profile) (s : State) (bytes marks lent : List ℕ) {r : BytesTaken
   took : TookSingly q r buffer
   took = took_singly p s bytes marks lent call
 
-  first_long : length q.answers ≡ length (take r.taken (marked_bytes bytes marks))
+  first_long : length q.answers ≡ length (take (counts_of r.outcome).taken (marked_bytes bytes marks))
   first_long =
       sym (length-take-le (length q.answers) (marked_bytes bytes marks) (taken_within p s bytes marks lent))
       ∙ ap (λ (n : ℕ). length (take n (marked_bytes bytes marks))) (sym took.taken)
 
   pub one_more_buffer : (s' : State) (ms : List Marked) (later room : List ℕ)
-      → length (take r.count buffer ++ later) ≤ length room
-      → (length later ≤ length (drop (length (take r.count buffer)) room)
-      → served (singly p r.state ms (drop (length (take r.count buffer)) room)) ≡ all_served s' ms later (drop (length (take r.count buffer)) room))
-      → served (singly p s (take r.taken (marked_bytes bytes marks) ++ ms) room)
-      ≡ all_served s' (take r.taken (marked_bytes bytes marks) ++ ms) (take r.count buffer ++ later) room
+      → length (take (counts_of r.outcome).count buffer ++ later) ≤ length room
+      → (length later ≤ length (drop (length (take (counts_of r.outcome).count buffer)) room)
+      → served (singly p r.state ms (drop (length (take (counts_of r.outcome).count buffer)) room)) ≡ all_served s' ms later (drop (length (take (counts_of r.outcome).count buffer)) room))
+      → served (singly p s (take (counts_of r.outcome).taken (marked_bytes bytes marks) ++ ms) room)
+      ≡ all_served s' (take (counts_of r.outcome).taken (marked_bytes bytes marks) ++ ms) (take (counts_of r.outcome).count buffer ++ later) room
   one_more_buffer s' ms later room h rest =
-      let answer : List ℕ = take r.count buffer in
-      let first : List Marked = take r.taken (marked_bytes bytes marks) in
+      let answer : List ℕ = take (counts_of r.outcome).count buffer in
+      let first : List Marked = take (counts_of r.outcome).taken (marked_bytes bytes marks) in
       let left : List ℕ = drop (length answer) room in
       let both = length-append answer later in
       let fits : length (joined q.answers) ≤ length room = rw (← took.answers) (omega (arith, h, both)) in
@@ -189,4 +189,4 @@ unfolding singly joined
 cuts_alike p s ms answers s' none room h = refl
 cuts_alike p s ms answers s' (next {bytes = bytes} {marks = marks} {room = lent} {r = r} {buffer = buffer} {ms = others} {answers = later} call rest) room h =
     one_more_buffer p s bytes marks lent call s' others later room h
-    (λ e. cuts_alike p r.state others later s' rest (drop (length (take r.count buffer)) room) e)
+    (λ e. cuts_alike p r.state others later s' rest (drop (length (take (counts_of r.outcome).count buffer)) room) e)

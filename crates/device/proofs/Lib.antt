@@ -1,7 +1,6 @@
 pub mod BenchCases
 mod BufferRefusals
 pub mod Cuts
-mod Delivery
 mod RangeCases
 mod Refusals
 mod Taking

@@ -9,14 +9,14 @@ use lib.Dec.{eqb}
 use lib.ListN.{length, take}
 use lib.Seq.{take-append_seam}
 use Rattle.device.specs.declared.bytes.BytesTaken.{BytesTaken}
-use Rattle.device.specs.Buffers.{Singly, answer_in, room_after, chosen_singly, chosen_bytes, with_answer, joined, lengths_allowed, none_taken, served, singly, refused_bytes, bytes_outcome, taken_singly, GivesBytes, BytesCalled}
+use Rattle.device.specs.Buffers.{Singly, answer_in, room_after, chosen_singly, chosen_bytes, counts_of, with_answer, joined, lengths_allowed, none_taken, served, singly, refused_bytes, bytes_outcome, taken_singly, GivesBytes, BytesCalled}
 use Rattle.device.specs.Calls.{Outcome, byte_outcome, of_profile, of_state}
 use Rattle.line.specs.Runs.{marked_bytes}
 use Rattle.line.specs.Unbounded.{Marked}
 use Rattle.model.specs.declared.profile.Profile.{Profile}
 use Rattle.model.specs.declared.state.State.{State}
 use Rattle.model.specs.Profiles.{profile_allowed}
-use Rattle.model.specs.Refusals.{number_of_refusal}
+use Rattle.model.specs.Refusals.{number_of_outcome}
 use Rattle.model.specs.States.{state_allowed}
 
 -- ---- what it returned
@@ -24,8 +24,8 @@ use Rattle.model.specs.States.{state_allowed}
 -- state, answers and how many bytes were taken
 pub record TookSingly (q : Singly) (r : BytesTaken) (buffer : List ℕ) : Type 0 where
   pub state : r.state ≡ q.state
-  pub answers : take r.count buffer ≡ joined q.answers
-  pub taken : r.taken ≡ length q.answers
+  pub answers : take (counts_of r.outcome).count buffer ≡ joined q.answers
+  pub taken : (counts_of r.outcome).taken ≡ length q.answers
 
 -- no byte is taken with a profile or a state that is refused
 module _ (p : Profile) (s : State) (room : List ℕ) where
@@ -94,7 +94,7 @@ taken_within p s bytes marks room = by (lengths_allowed bytes marks)
 -- with a profile and a state that are allowed, for its lengths alone
 pub lengths_alone : (p : Profile) (s : State) (bytes marks room : List ℕ) {r : BytesTaken} {buffer : List ℕ} → profile_allowed p ≡ true → state_allowed p s ≡ true
     → BytesCalled p s bytes marks room r buffer
-    → number_of_refusal r.refusal ≡ cond (lengths_allowed bytes marks) 0 5
+    → number_of_outcome r.outcome ≡ cond (lengths_allowed bytes marks) 0 5
 unfolding bytes_outcome
 lengths_alone p s bytes marks room profile state call = (rw (profile, state) at call.gives.numbered) ∙ by (lengths_allowed bytes marks) (singly p s (marked_bytes bytes marks) room)
   where

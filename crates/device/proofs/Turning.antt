@@ -5,16 +5,16 @@ use native.Mathlib.Nat.{add-zero}
 use native.Mathlib.Numerals.{add-one}
 use native.Mathlib.Omega.{arith}
 use mathlib.Core.Path.{◌≡◌, refl, sym, ap, subst, ◌∙◌}
-use mathlib.Core.Bool.{Bool, true, false, not, ◌&&◌, and-true, and-false, true≢false}
+use mathlib.Core.Bool.{Bool, true, false, cond, not, ◌&&◌, and-true, and-false, true≢false}
 use mathlib.Core.List.{List, [], ◌∷◌, ◌++◌, append-nil}
 use borrow.Author.Tests.{ltb-false, leb-true, le-ltb}
 use lib.Dec.{ltb}
+use Rattle.std.specs.Prelude.{Option, Some, None, Ok}
 use lib.ListN.{length, take, drop, length-append, length-drop, take-append-drop, drop_of_length-le}
 use lib.Seq.{take-append_seam, drop-append_seam, take-append-add, drop-append-add, drop-drop, length-take-le, take_all}
 use Rattle.commands.specs.Reactions.{line_reaction}
 use Rattle.commands.proofs.Bytes.{byte_ends}
 use Rattle.commands.proofs.StaysAllowed.{byte_allowed, byte_cells}
-use Rattle.emit.specs.declared.emit.Emitted.{Emitted}
 use Rattle.emit.specs.Rooms.{fits_room, emitted, laid_in}
 use Rattle.line.specs.declared.run.Run.{Run}
 use Rattle.line.specs.Receiving.{received_byte, line_limit}
@@ -23,7 +23,6 @@ use Rattle.line.proofs.Running.{fewer_bytes, marked_from}
 use Rattle.line.specs.Unbounded.{Marked}
 use Rattle.model.specs.declared.profile.Profile.{Profile}
 use Rattle.model.specs.declared.react.Reaction.{Reaction}
-use Rattle.model.specs.declared.refusal.Refusal.TheVariants as refusals
 use Rattle.model.specs.declared.state.State.{State}
 use Rattle.model.specs.Groups.{with_line}
 use Rattle.model.specs.Profiles.{profile_allowed}
@@ -36,6 +35,15 @@ use Rattle.device.proofs.Taking.{served_next, after_none, after_after, ended_tak
 
 abbrev pub turn_of : State → ℕ → ℕ → Bool → Turn
 turn_of s count taken stopped = record { state = s; count = count; taken = taken; stopped = stopped }
+
+-- whether a length was told
+no_room : (b : Bool) (n : ℕ) → cond b (Some n) None ≡ None → b ≡ false
+no_room true n e = absurd cc
+no_room false n e = refl
+
+has_room : (b : Bool) (n : ℕ) {m : ℕ} → cond b (Some n) None ≡ Some m → (b ≡ true) × (m ≡ n)
+has_room true n e = (refl, cc)
+has_room false n e = absurd cc
 
 module _ (p : Profile) (profile : profile_allowed p ≡ true) (s : State) (allowed : state_allowed p s ≡ true) (cells : length s.line.bytes ≡ line_limit)
     (ms : List Marked) (room : List ℕ) {run : Run} (received : run ≡ received_run s.line ms) {t : State} (put : t ≡ with_line s run.line) where
@@ -70,7 +78,7 @@ module _ (p : Profile) (profile : profile_allowed p ≡ true) (s : State) (allow
   one_left ends = omega (arith, length-drop run.taken ms, ap length (taken.next ends).1)
 
   module _ (ends : run.ended ≡ true) {q : Reaction} (due : q ≡ line_reaction p t)
-      {e : Emitted} (told : e ≡ emitted (answer_bytes p q.answer) room) {buffer : List ℕ} (laid : buffer ≡ laid_in (answer_bytes p q.answer) room) where
+      {e : Option ℕ} (told : e ≡ emitted (answer_bytes p q.answer) room) {buffer : List ℕ} (laid : buffer ≡ laid_in (answer_bytes p q.answer) room) where
     abbrev m : Marked
     m = (taken.next ends).0
 
@@ -90,18 +98,22 @@ module _ (p : Profile) (profile : profile_allowed p ≡ true) (s : State) (allow
     same_to_end : served (singly p s ms room) ≡ after_answers run.taken [] (served (singly p t (m ∷ rest) room))
     same_to_end = same_so_far ∙ ap (λ (x : List Marked). after_answers run.taken [] (served (singly p t x room))) at_end
 
-    fits_told : {b : Bool} → e.fits ≡ b → fits_room bytes room ≡ b
+    unfit_told : e ≡ None → fits_room bytes room ≡ false
     unfolding emitted
-    fits_told f = sym (ap (λ (x : Reaction). fits_room (answer_bytes p x.answer) room) due) ∙ sym (ap (λ (x : Emitted). x.fits) told) ∙ f
+    unfit_told f = no_room (fits_room bytes room) (length bytes) (sym (rw due at told) ∙ f)
+
+    fits_told : {n : ℕ} → e ≡ Some n → (fits_room bytes room ≡ true) × (n ≡ length bytes)
+    unfolding emitted
+    fits_told f = has_room (fits_room bytes room) (length bytes) (sym (rw due at told) ∙ f)
 
     laid_told : buffer ≡ laid_in bytes room
     laid_told = laid ∙ ap (λ (x : Reaction). laid_in (answer_bytes p x.answer) room) due
 
     -- its answer did not fit
-    pub line_stops : {r : Turn} → e.fits ≡ false → r ≡ turn_of t 0 run.taken true → TurnTaken p s ms room r buffer
+    pub line_stops : {r : Turn} → e ≡ None → r ≡ turn_of t 0 run.taken true → TurnTaken p s ms room r buffer
     unfolding laid_in
     line_stops unfit is =
-        let kept : buffer ≡ room = laid_told ∙ rw (fits_told unfit) in
+        let kept : buffer ≡ room = laid_told ∙ rw (unfit_told unfit) in
         rw (is, kept)
         (record {
           so_far =
@@ -112,14 +124,10 @@ module _ (p : Profile) (profile : profile_allowed p ≡ true) (s : State) (allow
                 long = refl;
                 same =
                     same_to_end
-                    ∙ ap (λ (x : Singly). after_answers run.taken [] (served x)) (ended_left p profile t now_allowed m room rest ends_it (fits_told unfit));
+                    ∙ ap (λ (x : Singly). after_answers run.taken [] (served x)) (ended_left p profile t now_allowed m room rest ends_it (unfit_told unfit));
               };
           moves = λ f more. absurd (true≢false f);
         })
-
-    count_told : e.fits ≡ true → e.count ≡ length bytes
-    unfolding emitted
-    count_told f = ap (λ (x : Emitted). x.count) told ∙ rw (due, fits_told f)
 
     after_allowed : state_allowed p (line_reaction p t).state ≡ true
     after_allowed = rw (byte_ends p t m.byte m.faulty refl ends_it) at (byte_allowed p profile t now_allowed m.byte m.faulty (rw put taken.cells))
@@ -129,11 +137,11 @@ module _ (p : Profile) (profile : profile_allowed p ≡ true) (s : State) (allow
     after_cells = rw due (rw (byte_ends p t m.byte m.faulty refl ends_it) at (byte_cells p profile t now_allowed m.byte m.faulty (rw put taken.cells)))
 
     -- it fitted
-    pub line_answered : {r : Turn} → e.fits ≡ true → r ≡ turn_of q.state e.count (run.taken + 1) false → TurnTaken p s ms room r buffer
+    pub line_answered : {n : ℕ} {r : Turn} → e ≡ Some n → r ≡ turn_of q.state n (run.taken + 1) false → TurnTaken p s ms room r buffer
     unfolding laid_in
-    line_answered {r} f is =
-        let kept : buffer ≡ bytes ++ drop (length bytes) room = laid_told ∙ rw (fits_told f) in
-        let turn : r ≡ turn_of (line_reaction p t).state (length bytes) (suc run.taken) false = is ∙ rw (due, count_told f, add-one run.taken) in
+    line_answered {r = r} f is =
+        let kept : buffer ≡ bytes ++ drop (length bytes) room = laid_told ∙ rw (fits_told f).0 in
+        let turn : r ≡ turn_of (line_reaction p t).state (length bytes) (suc run.taken) false = is ∙ rw (due, (fits_told f).1, add-one run.taken) in
         let later : Singly = singly p (line_reaction p t).state rest (drop (length bytes) room) in
         rw (turn, kept)
         (record {
@@ -142,10 +150,10 @@ module _ (p : Profile) (profile : profile_allowed p ≡ true) (s : State) (allow
                 allowed = after_allowed;
                 within = omega (arith, one_left ends);
                 written = omega (arith, length-append bytes (drop (length bytes) room));
-                long = omega (arith, length-append bytes (drop (length bytes) room), length-drop (length bytes) room, leb-true (length bytes) (length room) (fits_told f));
+                long = omega (arith, length-append bytes (drop (length bytes) room), length-drop (length bytes) room, leb-true (length bytes) (length room) (fits_told f).0);
                 same =
                     same_to_end
-                    ∙ ap (λ (x : Singly). after_answers run.taken [] (served x)) (ended_taken p profile t now_allowed m room rest ends_it (fits_told f))
+                    ∙ ap (λ (x : Singly). after_answers run.taken [] (served x)) (ended_taken p profile t now_allowed m room rest ends_it (fits_told f).0)
                     ∙ ap (after_answers run.taken []) (served_next bytes later)
                     ∙ after_after run.taken 1 [] bytes (served later)
                     ∙ rw (take-append_seam bytes (drop (length bytes) room), drop-append_seam bytes (drop (length bytes) room), add-one run.taken);
@@ -162,9 +170,6 @@ drop_after : (n k : ℕ) (xs ys : List ℕ) → length xs ≡ n → drop (n + k)
 drop_after n k xs ys e = rw (← e) (drop-append-add xs ys k)
 
 module _ {p : Profile} {s : State} {ms : List Marked} {room : List ℕ} where
-  pub none_taken_lem : state_allowed p s ≡ true → TakenSoFar p s ms room (turn_of s 0 0 false) room
-  none_taken_lem allowed = record { allowed = allowed; within = omega arith; written = omega arith; long = refl; same = after_none _ }
-
   -- what one more turn adds
   pub one_more_turn
       : {t u : Turn} {buffer lent : List ℕ}
@@ -207,7 +212,7 @@ module _ {p : Profile} {s : State} {ms : List Marked} {room : List ℕ} where
 -- as the code returns it
 pub taken_gives : {o : BytesOutcome} {s : State} {count taken : ℕ} {buffer : List ℕ} {r : BytesTaken}
     → o ≡ record { number = 0; state = s; count = count; taken = taken; buffer = buffer }
-    → r ≡ record { state = s; count = count; taken = taken; refusal = refusals.None }
+    → r ≡ record { state = s; outcome = Ok (record { count = count; taken = taken }) }
     → GivesBytes o r buffer
 taken_gives e f = rw f (record { numbered = rw e; returned = rw e; counted = rw e; took = rw e; left = rw e })
 

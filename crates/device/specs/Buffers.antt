@@ -1,14 +1,16 @@
 -- Document 02, No. 2: a whole buffer of received bytes, good and faulty marked by a second one of the same length.
 -- Assumes nothing.
-use Rattle.std.specs.Prelude.{ℕ, ◌≤◌, ◌≡◌, Bool, true, false, ◌&&◌, List, [], ◌∷◌, ◌++◌, leb, eqb, length, take, drop}
+use Rattle.std.specs.Prelude.{ℕ, ◌≤◌, ◌≡◌, Bool, true, false, ◌&&◌, List, [], ◌∷◌, ◌++◌, leb, eqb, length, take, drop, Result, Ok, Err}
 use Rattle.device.specs.declared.bytes.BytesTaken.{BytesTaken}
+use Rattle.device.specs.declared.bytes.Taken.{Taken}
 use Rattle.device.specs.Calls.{Outcome, byte_outcome}
 use Rattle.line.specs.Runs.{marked_bytes}
 use Rattle.line.specs.Unbounded.{Marked}
 use Rattle.model.specs.declared.profile.Profile.{Profile}
 use Rattle.model.specs.declared.state.State.{State}
 use Rattle.model.specs.Profiles.{profile_allowed}
-use Rattle.model.specs.Refusals.{number_of_refusal}
+use Rattle.model.specs.declared.refusal.Refusal.{Refusal}
+use Rattle.model.specs.Refusals.{number_of_outcome}
 use Rattle.model.specs.States.{state_allowed}
 
 -- ---- taking them singly
@@ -95,11 +97,16 @@ bytes_outcome p s bytes marks room =
 
 -- ---- what the contract says: the refusal number, the result and the whole buffer at exit, for every input
 
+-- what a call's result counts; nothing on a refusal
+abbrev pub counts_of : Result Taken Refusal → Taken
+counts_of (Ok t) = t
+counts_of (Err e) = record { count = 0; taken = 0 }
+
 pub record GivesBytes (o : BytesOutcome) (r : BytesTaken) (buffer : List ℕ) : Type 0 where
-  pub numbered : number_of_refusal r.refusal ≡ o.number
+  pub numbered : number_of_outcome r.outcome ≡ o.number
   pub returned : r.state ≡ o.state
-  pub counted : r.count ≡ o.count
-  pub took : r.taken ≡ o.taken
+  pub counted : (counts_of r.outcome).count ≡ o.count
+  pub took : (counts_of r.outcome).taken ≡ o.taken
   pub left : buffer ≡ o.buffer
 
 pub record BytesCalled (p : Profile) (s : State) (bytes marks room : List ℕ) (r : BytesTaken) (buffer : List ℕ) : Type 0 where
@@ -116,7 +123,7 @@ pub data Buffers (p : Profile) : State → List Marked → List ℕ → State �
   none : {s : State} → Buffers p s [] [] s
   next : {s : State} {bytes marks room : List ℕ} {r : BytesTaken} {buffer : List ℕ} {ms : List Marked} {answers : List ℕ} {s' : State}
       → BytesCalled p s bytes marks room r buffer → Buffers p r.state ms answers s'
-      → Buffers p s (take r.taken (marked_bytes bytes marks) ++ ms) (take r.count buffer ++ answers) s'
+      → Buffers p s (take (counts_of r.outcome).taken (marked_bytes bytes marks) ++ ms) (take (counts_of r.outcome).count buffer ++ answers) s'
 
 -- whatever the cuts and the rooms were, they gave what these bytes give that are taken singly, in a room that suffices
 abbrev pub CutsAlike : Type 0

@@ -1,6 +1,6 @@
 -- Document 01, "Refusal numbers": the three calls, each refusal in its case only and in this order.
 -- Assumes nothing.
-use Rattle.std.specs.Prelude.{ℕ, ◌≡◌, Bool, true, false, List, length}
+use Rattle.std.specs.Prelude.{ℕ, ◌≡◌, Bool, true, false, cond, List, [], length, Result, Ok, Err}
 use Rattle.answer.specs.Commands.{place_i4}
 use Rattle.answer.specs.declared.answer.Answer.{Answer}
 use Rattle.answer.specs.declared.answer.Answer.TheVariants.{Nothing, Plain, Weight, ErrorLine, Text, Listed, CommandList, Versions, HostUnit}
@@ -12,27 +12,25 @@ use Rattle.model.specs.declared.react.Reaction.{Reaction}
 use Rattle.model.specs.declared.state.State.{State}
 use Rattle.weight.specs.declared.loads.Load.{Load}
 use Rattle.model.specs.Profiles.{profile_allowed, information_text}
-use Rattle.model.specs.Refusals.{number_of_refusal}
+use Rattle.model.specs.declared.refusal.Refusal.{Refusal}
+use Rattle.model.specs.declared.refusal.Refusal.TheVariants as refusals
+use Rattle.model.specs.Refusals.{number_of_outcome}
 use Rattle.model.specs.States.{state_allowed, start_state}
 use Rattle.commands.specs.Reactions.{byte_reaction}
 use Rattle.model.specs.Groups.{reaction}
 use Rattle.waiting.specs.Waits.{sample_reaction}
 
--- the command whose text goes with an answer; 0, which has none, for every other
-abbrev pub text_command : Answer → ℕ
-text_command Nothing = 0
-text_command (Plain h) = 0
-text_command (Weight h n) = 0
-text_command (ErrorLine e) = 0
-text_command (Text c) = c
-text_command (Listed last c) = 0
-text_command CommandList = 0
-text_command Versions = 0
-text_command (HostUnit u) = 0
-
--- the text that goes with an answer
+-- the text that goes with an answer, by the command that asked for it; none with every other
 abbrev pub answer_text : Profile → Answer → List ℕ
-answer_text p a = information_text p (text_command a)
+answer_text p Nothing = []
+answer_text p (Plain h) = []
+answer_text p (Weight h n) = []
+answer_text p (ErrorLine e) = []
+answer_text p (Text c) = information_text p c
+answer_text p (Listed last c) = []
+answer_text p CommandList = []
+answer_text p Versions = []
+answer_text p (HostUnit u) = []
 
 -- the bytes of an answer
 unfoldable pub answer_bytes : Profile → Answer → List ℕ
@@ -69,6 +67,10 @@ of_profile p s room next = chosen_outcome (profile_allowed p) next (refused 1 s 
 unfoldable pub of_state : Profile → State → List ℕ → Outcome → Outcome
 of_state p s room next = chosen_outcome (state_allowed p s) next (refused 2 s room)
 
+-- the two of them, as the code asks for them
+abbrev pub admitted : Profile → State → Result (Unit {0}) Refusal
+admitted p s = cond (profile_allowed p) (cond (state_allowed p s) (Ok tt) (Err refusals.State)) (Err refusals.Profile)
+
 -- power-on sends the I4 line; it reads no earlier state
 unfoldable pub power_on_outcome : Profile → State → List ℕ → Outcome
 power_on_outcome p s room = of_profile p s room (delivered p s (reaction start_state (Text place_i4)) room)
@@ -81,10 +83,15 @@ sample_outcome p s load stable room = of_profile p s room (of_state p s room (de
 
 -- ---- what the contracts say: the refusal number, the result and the whole buffer at exit, for every input
 
+-- n of a call's result
+abbrev pub count_of : Result ℕ Refusal → ℕ
+count_of (Ok n) = n
+count_of (Err e) = 0
+
 pub record Gives (o : Outcome) (r : Called) (buffer : List ℕ) : Type 0 where
-  pub numbered : number_of_refusal r.refusal ≡ o.number
+  pub numbered : number_of_outcome r.outcome ≡ o.number
   pub returned : r.state ≡ o.state
-  pub counted : r.count ≡ o.count
+  pub counted : count_of r.outcome ≡ o.count
   pub left : buffer ≡ o.buffer
 
 pub record PowerOnCalled (p : Profile) (s : State) (room : List ℕ) (r : Called) (buffer : List ℕ) : Type 0 where

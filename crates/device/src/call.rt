@@ -1,15 +1,16 @@
 // The calls of the module. Each is total and trusts no caller: a profile or state that is not allowed is refused before anything is
 // changed, and a refusal gives the given state back and leaves the buffer as it was. Most inputs are not answered: they change one
 // group of the state and need no buffer.
-ghost use Rattle.std.specs.Prelude.{◌≡◌};
-ghost use Rattle.device.specs.Calls.{PowerOnCalled, ByteCalled, SampleCalled};
+ghost use Rattle.std.specs.Prelude.{◌≡◌, Ok, Err};
+ghost use Rattle.device.specs.Calls.{Gives, PowerOnCalled, ByteCalled, SampleCalled, delivered, admitted};
 
 use crate::buffer::emit_due;
-use answer::Answer;
+use answer::{Answer, I4};
 use commands::line_reaction;
 use line::receive_byte;
 use model::{
-    Profile, Refusal, State, answered, is_profile_allowed, is_state_allowed, start_state, with_line,
+    Profile, Reaction, Refusal, State, answered, is_profile_allowed, is_state_allowed, start_state,
+    with_line,
 };
 use waiting::{is_awaited, sample_reaction, sampled};
 use weight::Load;
@@ -18,28 +19,51 @@ use weight::Load;
 pub struct Called {
     // The given state where it is refused.
     pub state: State,
-    // How many bytes of the buffer are the answer.
-    pub count: usize,
-    pub refusal: Refusal,
+    // How many bytes of the buffer are the answer, or why it is refused.
+    pub outcome: Result<usize, Refusal>,
 }
 
 fn refused(refusal: Refusal, given: State) -> Called
-    ensures { result ≡ record { refusal = refusal; state = given; count = 0 } }
+    ensures { result ≡ record { state = given; outcome = Err refusal } }
 {
     Called {
-        refusal,
         state: given,
-        count: 0,
+        outcome: Err(refusal),
     }
 }
 
 fn taken(state: State, count: usize) -> Called
-    ensures { result ≡ record { refusal = Refusal.None; state = state; count = count } }
+    ensures { result ≡ record { state = state; outcome = Ok count } }
 {
     Called {
-        refusal: Refusal::None,
         state,
-        count,
+        outcome: Ok(count),
+    }
+}
+
+// What every call but power-on asks before anything is changed. Inlined, it has no profile and no state copied for it.
+#[inline(always)]
+pub fn admitted(profile: Profile, state: State) -> Result<(), Refusal>
+    ensures { result ≡ admitted profile state }
+{
+    if !is_profile_allowed(profile) {
+        Err(Refusal::Profile)
+    } else if !is_state_allowed(profile, state) {
+        Err(Refusal::State)
+    } else {
+        Ok(())
+    }
+}
+
+// The answer due, and with it the new state, if there is room.
+#[inline(always)]
+#[tactic(auto, unfolding(crate::specs::Calls::delivered, emit::specs::Rooms::emitted, emit::specs::Rooms::laid_in))]
+fn delivered(profile: Profile, given: State, reaction: Reaction, out: &mut [u8]) -> Called
+    ensures { Gives (delivered profile given reaction out.old) result out.new }
+{
+    match emit_due(profile, reaction.answer, out) {
+        Some(count) => taken(reaction.state, count),
+        None => refused(Refusal::Room, given),
     }
 }
 
@@ -50,42 +74,23 @@ pub fn power_on(profile: Profile, earlier: State, out: &mut [u8]) -> Called
     if !is_profile_allowed(profile) {
         return refused(Refusal::Profile, earlier);
     }
-    let started = answered(start_state(), Answer::Text(answer::I4));
-    let answer = started.answer;
-    let emitted = emit_due(profile, answer, out);
-    if emitted.fits {
-        let after = started.state;
-        return taken(after, emitted.count);
-    }
-    refused(Refusal::Room, earlier)
+    let started = answered(start_state(), Answer::Text(I4));
+    delivered(profile, earlier, started, out)
 }
 
 // A received byte, with its mark.
 pub fn take_byte(profile: Profile, state: State, byte: u8, faulty: bool, out: &mut [u8]) -> Called
     ensures { ByteCalled profile state byte faulty out.old result out.new }
 {
-    if !is_profile_allowed(profile) {
-        return refused(Refusal::Profile, state);
+    if let Err(refusal) = admitted(profile, state) {
+        return refused(refusal, state);
     }
-    if !is_state_allowed(profile, state) {
-        return refused(Refusal::State, state);
-    }
-    let before = state.line;
-    let received = receive_byte(before, byte, faulty);
+    let received = receive_byte(state.line, byte, faulty);
     if received.ended {
-        // Copied here, the profile is not copied for a byte that ends no line.
-        let kept = profile;
-        let reaction = line_reaction(profile, state);
-        let answer = reaction.answer;
-        let emitted = emit_due(kept, answer, out);
-        if emitted.fits {
-            let after = reaction.state;
-            return taken(after, emitted.count);
-        }
-        return refused(Refusal::Room, state);
+        delivered(profile, state, line_reaction(profile, state), out)
+    } else {
+        taken(with_line(state, received.line), 0)
     }
-    let line = received.line;
-    taken(with_line(state, line), 0)
 }
 
 // A load sample, with its mark.
@@ -98,23 +103,13 @@ pub fn take_sample(
 ) -> Called
     ensures { SampleCalled profile state load stable out.old result out.new }
 {
-    if !is_profile_allowed(profile) {
-        return refused(Refusal::Profile, state);
-    }
-    if !is_state_allowed(profile, state) {
-        return refused(Refusal::State, state);
+    if let Err(refusal) = admitted(profile, state) {
+        return refused(refusal, state);
     }
     if is_awaited(state) {
-        // Copied here, the profile is not copied for a sample that nothing awaits.
-        let kept = profile;
         let reaction = sample_reaction(profile, state, load, stable);
-        let answer = reaction.answer;
-        let emitted = emit_due(kept, answer, out);
-        if emitted.fits {
-            let after = reaction.state;
-            return taken(after, emitted.count);
-        }
-        return refused(Refusal::Room, state);
+        delivered(profile, state, reaction, out)
+    } else {
+        taken(sampled(state, load, stable), 0)
     }
-    taken(sampled(state, load, stable), 0)
 }

@@ -6,5 +6,5 @@ mod buffer;
 mod bytes;
 mod call;
 
-pub use bytes::{BytesTaken, take_bytes};
+pub use bytes::{BytesTaken, Taken, take_bytes};
 pub use call::{Called, power_on, take_byte, take_sample};

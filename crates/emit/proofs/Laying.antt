@@ -1,115 +1,74 @@
--- Pieces laid one after another into a buffer. `sets d a s` is d with s stored from a on.
+-- Pieces laid one after another into a buffer.
 -- Assumes nothing.
-use mathlib.Core.Path.{◌≡◌, refl, sym, ap, ◌∙◌}
-use mathlib.Core.List.{List, [], ◌∷◌, ◌++◌}
-use Prim.Native.Nat.{ℕ, suc, ◌+◌, ◌≤◌, ◌<◌}
-use native.Mathlib.Nat.{add-zero, add-suc, suc-add}
-use native.Mathlib.Numerals.{add-one}
+use mathlib.Core.Path.{◌≡◌, sym, ap, ◌∙◌}
+use mathlib.Core.List.{List, [], ◌∷◌, ◌++◌, append_assoc, append-nil}
+use Prim.Native.Nat.{ℕ, zero, suc, ◌+◌, ◌-◌, ◌≤◌, ◌<◌}
+use native.Mathlib.Nat.{add-zero, add-suc, suc-add, not-suc-le-zero, le_of_suc-le-suc}
 use native.Mathlib.Omega.{arith}
+use borrow.Rule.Slice.PartMut.{put_mid}
 use lib.ListN.{length, take, drop, get_or, set, length-append}
-use lib.Seq.{sets, length-sets, sets-eq, take-suc, take_all, length-take-le}
+use lib.Seq.{sets, length-sets, sets-eq, drop-drop}
+use Rattle.std.specs.Borrow.{Bor}
+use Rattle.emit.specs.Pieces.{Laid, joined}
 
 -- a piece and then another are the two together
 pub sets_append : (d : List ℕ) (a : ℕ) (p q : List ℕ) → sets d a (p ++ q) ≡ sets (sets d a p) (a + length p) q
 sets_append d a [] q = rw (add-zero a)
 sets_append d a (x ∷ p) q = sets_append (set d a x) (suc a) p q ∙ rw (suc-add, add-suc)
 
--- one byte more of a piece
-pub sets_more : (d : List ℕ) (a : ℕ) (s : List ℕ) (i : ℕ) → i < length s → set (sets d a (take i s)) (a + i) (get_or s i 0) ≡ sets d a (take (i + 1) s)
-sets_more d a s i h =
-    let all : length (take i s) ≡ i = length-take-le i s (omega arith) in
-    sym (rw (add-one, take-suc s i 0 h, sets_append d a (take i s) (get_or s i 0 ∷ []), all))
+-- a text after another
+pub laid_after : (d : List ℕ) (a : ℕ) (p q : List ℕ) {e f : List ℕ} {b g : ℕ} → Laid d a e b p → Laid e b f g q → Laid d a f g (p ++ q)
+laid_after d a p q h k = (omega (arith, h.0, k.0, length-append p q), k.1 ∙ rw (h.0, h.1) (sym (sets_append d a p q)))
 
--- the whole piece
-pub sets_all : (d : List ℕ) (a : ℕ) (s : List ℕ) (i : ℕ) → length s ≤ i → sets d a (take i s) ≡ sets d a s
-sets_all d a s i h = rw (take_all i s h)
+-- a part of the buffer that a piece is copied over
+overwritten : (d q : List ℕ) (e k : ℕ) → e + length q ≤ length d → k ≡ length q → put_mid e k d q ≡ sets d e q
+overwritten d q e k h z =
+    sym (sets-eq q d e h ∙ append_assoc (take e d) q (drop (e + length q) d)
+    ∙ ap (λ (t : List ℕ). take e d ++ (q ++ t)) (sym (drop-drop (length q) e d))
+    ∙ ap (λ (n : ℕ). take e d ++ (q ++ drop n (drop e d))) (sym z))
 
--- s stands in e from a up to b, and the rest of e is as in d
-abbrev pub Laid : List ℕ → ℕ → List ℕ → ℕ → List ℕ → Type 0
-Laid d a e b s = (b ≡ a + length s) × (e ≡ sets d a s)
+-- one piece more
+joined_more : (ps : List (Bor (List ℕ))) (k : ℕ) (x : Bor (List ℕ)) → k < length ps → joined (take (k + 1) ps) ≡ joined (take k ps) ++ (get_or ps k x).now
+joined_more [] k x h = absurd (not-suc-le-zero h)
+joined_more (p ∷ ps) zero x h = append-nil p.now
+joined_more (p ∷ ps) (suc k) x h =
+    ap (λ (n : ℕ). joined (take n (p ∷ ps))) (suc-add k 1)
+    ∙ ap (λ (t : List ℕ). p.now ++ t) (joined_more ps k x (le_of_suc-le-suc h))
+    ∙ sym (append_assoc p.now (joined (take k ps)) (get_or ps k x).now)
 
--- the pieces of a text
-pub record Two (p q s : List ℕ) : Type 0 where
-  pub whole : p ++ q ≡ s
+-- and the whole is no shorter
+joined_within : (ps : List (Bor (List ℕ))) (k : ℕ) → length (joined (take k ps)) ≤ length (joined ps)
+joined_within [] zero = omega arith
+joined_within [] (suc k) = omega arith
+joined_within (p ∷ ps) zero = omega arith
+joined_within (p ∷ ps) (suc k) =
+    omega (arith, joined_within ps k, length-append p.now (joined (take k ps)), length-append p.now (joined ps))
 
-pub record Three (p q r s : List ℕ) : Type 0 where
-  pub whole : p ++ q ++ r ≡ s
+-- a reference to no bytes, as what stands past the last piece
+abbrev none : Bor (List ℕ)
+none = record { ref_ptr = (0, 0); now = [] }
 
-pub record Four (p q r t s : List ℕ) : Type 0 where
-  pub whole : p ++ q ++ r ++ t ≡ s
+-- ---- the loop that lays the pieces: what stands is the first k
 
-joined : (p q : List ℕ) → Two p q (p ++ q)
-joined p q = record { whole = refl }
+module _ (d : List ℕ) (a k : ℕ) (ps : List (Bor (List ℕ))) (h : k < length ps) {e : List ℕ} {b : ℕ} (l : Laid d a e b (joined (take k ps))) (r : a + length (joined ps) ≤ length d) (z : length e ≡ length d) where
+  pub piece_room : b + length (get_or ps k none).now ≤ length e
+  piece_room =
+      omega (arith, l.0, joined_within ps (k + 1), ap length (joined_more ps k none h), length-append (joined (take k ps)) (get_or ps k none).now)
 
-module _ (d : List ℕ) (a : ℕ) {p q s : List ℕ} (w : Two p q s) where
-  -- two pieces make the whole
-  pub laid_2 : {e f : List ℕ} {b g : ℕ} → Laid d a e b p → Laid e b f g q → Laid d a f g s
-  laid_2 h k = (
-    omega (arith, h.0, k.0, length-append p q, ap length w.whole),
-    k.1 ∙ rw (h.0, h.1, ← w.whole) (sym (sets_append d a p q)),
-  )
-
-  -- where the whole has room, so has the first piece, and after it the next
-  pub room_1_of_2 : a + length s ≤ length d → a + length p ≤ length d
-  room_1_of_2 h = omega (arith, length-append p q, ap length w.whole)
-
-  pub room_2_of_2 : {e : List ℕ} {b : ℕ} → Laid d a e b p → a + length s ≤ length d → b + length q ≤ length e
-  room_2_of_2 l h = omega (arith, l.0, length-append p q, ap length w.whole, ap length l.1, length-sets d a p)
-
--- one piece that is the whole
-pub laid_as : (d : List ℕ) (a : ℕ) {p s : List ℕ} → p ≡ s → {e : List ℕ} {b : ℕ} → Laid d a e b p → Laid d a e b s
-laid_as d a whole l = rw whole at l
-
-pub room_as : (d : List ℕ) (a : ℕ) {p s : List ℕ} → p ≡ s → a + length s ≤ length d → a + length p ≤ length d
-room_as d a whole h = rw whole h
-
--- three pieces: the last after the first two
-module _ (d : List ℕ) (a : ℕ) {p q r s : List ℕ} (w : Three p q r s) where
-  last_of_3 : Two (p ++ q) r s
-  last_of_3 = record { whole = w.whole }
-
-  pub laid_3 : {e f g : List ℕ} {b k n : ℕ} → Laid d a e b p → Laid e b f k q → Laid f k g n r → Laid d a g n s
-  laid_3 h i j = laid_2 d a last_of_3 (laid_2 d a (joined p q) h i) j
-
-  pub room_1_of_3 : a + length s ≤ length d → a + length p ≤ length d
-  room_1_of_3 h = room_1_of_2 d a (joined p q) (room_1_of_2 d a last_of_3 h)
-
-  pub room_2_of_3 : {e : List ℕ} {b : ℕ} → Laid d a e b p → a + length s ≤ length d → b + length q ≤ length e
-  room_2_of_3 l h = room_2_of_2 d a (joined p q) l (room_1_of_2 d a last_of_3 h)
-
-  pub room_3_of_3 : {e f : List ℕ} {b k : ℕ} → Laid d a e b p → Laid e b f k q → a + length s ≤ length d → k + length r ≤ length f
-  room_3_of_3 l m h = room_2_of_2 d a last_of_3 (laid_2 d a (joined p q) l m) h
-
--- four pieces: the last after the first three
-module _ (d : List ℕ) (a : ℕ) {p q r t s : List ℕ} (w : Four p q r t s) where
-  last_of_4 : Two (p ++ q ++ r) t s
-  last_of_4 = record { whole = w.whole }
-
-  first_of_4 : Three p q r (p ++ q ++ r)
-  first_of_4 = record { whole = refl }
-
-  pub laid_4 : {e f g i : List ℕ} {b k n o : ℕ} → Laid d a e b p → Laid e b f k q → Laid f k g n r → Laid g n i o t → Laid d a i o s
-  laid_4 h i j k = laid_2 d a last_of_4 (laid_3 d a first_of_4 h i j) k
-
-  pub room_1_of_4 : a + length s ≤ length d → a + length p ≤ length d
-  room_1_of_4 h = room_1_of_3 d a first_of_4 (room_1_of_2 d a last_of_4 h)
-
-  pub room_2_of_4 : {e : List ℕ} {b : ℕ} → Laid d a e b p → a + length s ≤ length d → b + length q ≤ length e
-  room_2_of_4 l h = room_2_of_3 d a first_of_4 l (room_1_of_2 d a last_of_4 h)
-
-  pub room_3_of_4 : {e f : List ℕ} {b k : ℕ} → Laid d a e b p → Laid e b f k q → a + length s ≤ length d → k + length r ≤ length f
-  room_3_of_4 l m h = room_3_of_3 d a first_of_4 l m (room_1_of_2 d a last_of_4 h)
-
-  pub room_4_of_4 : {e f g : List ℕ} {b k n : ℕ} → Laid d a e b p → Laid e b f k q → Laid f k g n r → a + length s ≤ length d → n + length t ≤ length g
-  room_4_of_4 l m o h = room_2_of_2 d a last_of_4 (laid_3 d a first_of_4 l m o) h
+  pub piece_more : {q : List ℕ} → q ≡ (get_or ps k none).now
+      → (length (put_mid b (b + length (get_or ps k none).now - b) e q) ≡ length d) × Laid d a (put_mid b (b + length (get_or ps k none).now - b) e q) (b + length (get_or ps k none).now) (joined (take (k + 1) ps))
+  piece_more {q} s =
+      let p = (get_or ps k none).now in
+      let more = joined_more ps k none h in
+      let laid : put_mid b (b + length p - b) e q ≡ sets e b p = rw s (overwritten e p b (b + length p - b) piece_room (omega arith)) in (
+        rw laid (omega (arith, length-sets e b p)),
+        (
+          omega (arith, l.0, ap length more, length-append (joined (take k ps)) p),
+          laid ∙ rw (l.0, l.1, more) (sym (sets_append d a (joined (take k ps)) p)),
+        ),
+      )
 
 -- ---- a whole line, from the buffer's start
-
-pub line_room : (d : List ℕ) {p s : List ℕ} → s ≡ p → length s ≤ length d → 0 + length p ≤ length d
-line_room d {p} {s} e h = omega (arith, ap length e)
-
-pub line_laid : (d : List ℕ) {p s : List ℕ} → s ≡ p → {f : List ℕ} {b : ℕ} → Laid d 0 f b p → (b ≡ length s) × (f ≡ sets d 0 s)
-line_laid d {p} {s} e l = (omega (arith, ap length e, l.0), l.1 ∙ ap (sets d 0) (sym e))
 
 pub line_stands : (d s : List ℕ) → length s ≤ length d → sets d 0 s ≡ s ++ drop (length s) d
 line_stands d s h =

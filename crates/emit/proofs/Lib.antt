@@ -1,4 +1,2 @@
 mod Laying
-mod Lines
 mod Listing
-mod Rooms

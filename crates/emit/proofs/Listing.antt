@@ -8,10 +8,11 @@ use native.Mathlib.Omega.{arith}
 use native.Mathlib.Numerals.{add-one}
 use borrow.Author.Tests.{eq-eqb, ne_eqb, eqb-true, eqb-false}
 use lib.Dec.{eqb}
-use lib.ListN.{length}
+use lib.ListN.{length, length-append}
 use Rattle.answer.specs.Commands.{command_count, last_place}
 use Rattle.answer.specs.Lines.{listed_line, listed_from}
-use Rattle.emit.proofs.Laying.{Laid, Two, Three, laid_2, laid_as, room_2_of_3}
+use Rattle.emit.specs.Pieces.{Laid}
+use Rattle.emit.proofs.Laying.{laid_after}
 
 -- the lines before command c
 unfoldable pub listed_to : ℕ → List ℕ
@@ -36,19 +37,17 @@ listed_split (suc c) n h =
 
 -- ---- the loop that lays them: what stands is the lines before c
 
-module _ (d : List ℕ) (a c : ℕ) {e : List ℕ} {b : ℕ} (l : Laid d a e b (listed_to c)) where
-  pub line_room : c < command_count → a + length (listed_from command_count 0) ≤ length d → b + length (listed_line (eqb c last_place) c) ≤ length e
+module _ (d : List ℕ) (c : ℕ) {e : List ℕ} {b : ℕ} (l : Laid d 0 e b (listed_to c)) where
+  pub line_room : c < command_count → length (listed_from command_count 0) ≤ length d → length e ≡ length d → b + length (listed_line (eqb c last_place) c) ≤ length e
   unfolding listed_to
-  line_room h r =
-      let all : Three (listed_to c) (listed_line (eqb c last_place) c) (listed_from (last_place - c) (suc c)) (listed_from command_count 0) = record { whole = listed_split (suc c) (last_place - c) (omega arith) } in
-      room_2_of_3 d a all l r
+  line_room h r z =
+      let all = ap length (listed_split (suc c) (last_place - c) (omega arith)) in
+      omega (arith, l.0, all, length-append (listed_to (suc c)) (listed_from (last_place - c) (suc c)), length-append (listed_to c) (listed_line (eqb c last_place) c))
 
-  pub line_more : {f : List ℕ} {g : ℕ} → Laid e b f g (listed_line (eqb c last_place) c) → Laid d a f g (listed_to (c + 1))
+  pub line_more : {f : List ℕ} {g : ℕ} → Laid e b f g (listed_line (eqb c last_place) c) → Laid d 0 f g (listed_to (c + 1))
   unfolding listed_to
-  line_more m =
-      let more : Two (listed_to c) (listed_line (eqb c last_place) c) (listed_to (c + 1)) = record { whole = rw (add-one c) } in
-      laid_2 d a more l m
+  line_more m = rw (add-one c) (laid_after d 0 (listed_to c) (listed_line (eqb c last_place) c) l m)
 
-  pub line_last : c ≡ command_count → Laid d a e b (listed_from command_count 0)
-  unfolding listed_from
-  line_last h = laid_as d a (ap listed_to h ∙ sym (append-nil (listed_to command_count)) ∙ listed_split command_count 0 refl) l
+pub listed_all : (c : ℕ) → c ≡ command_count → listed_to c ≡ listed_from command_count 0
+unfolding listed_from
+listed_all c h = ap listed_to h ∙ sym (append-nil (listed_to command_count)) ∙ listed_split command_count 0 refl

@@ -4,4 +4,4 @@
 
 mod emit;
 
-pub use emit::{Emitted, emit_answer};
+pub use emit::emit_answer;

@@ -16,7 +16,7 @@ use Rattle.device.specs.Calls.{Outcome, byte_outcome, ByteCalled, SampleCalled}
 use Rattle.history.specs.Claim.{Calls, OverCalls, done, byte_call, sample_call, bytes_call, byte_event, sample_event, taken_events, bytes_events}
 use Rattle.line.specs.Runs.{marked_bytes}
 use Rattle.line.specs.Unbounded.{Marked}
-use Rattle.model.specs.declared.refusal.Refusal.TheVariants as refusals
+use Rattle.std.specs.Prelude.{Ok}
 use Rattle.model.specs.Profiles.{profile_allowed}
 use Rattle.model.specs.States.{start_state}
 use Rattle.history.specs.Tally.{Event}
@@ -55,7 +55,7 @@ module _ {p : Profile} {X : Type 0} {Inv : State → X → Type 0} {accepted : X
   -- a byte that was taken is a byte call, in the room that was left
   as_call : (s : State) (m : Marked) (room : List ℕ) → (byte_outcome p s m.byte m.faulty room).number ≡ 0 →
       let o = byte_outcome p s m.byte m.faulty room in
-      ByteCalled p s m.byte m.faulty room (record { state = o.state; count = o.count; refusal = refusals.None }) o.buffer
+      ByteCalled p s m.byte m.faulty room (record { state = o.state; outcome = Ok o.count }) o.buffer
   as_call s m room e = record { gives = record { numbered = sym e; returned = refl; counted = refl; left = refl } }
 
   none_followed : (ms : List Marked) (s : State) (x : X) → Inv s x → FollowedAll X Inv accepted s x (taken_events ms [])
@@ -72,7 +72,7 @@ module _ {p : Profile} {X : Type 0} {Inv : State → X → Type 0} {accepted : X
   unfolding taken_events
   one_followed m ms s x room i true e rest =
       let o : Outcome = byte_outcome p s m.byte m.faulty room in
-      let f = step.byte s x m.byte m.faulty room (record { state = o.state; count = o.count; refusal = refusals.None }) o.buffer i
+      let f = step.byte s x m.byte m.faulty room (record { state = o.state; outcome = Ok o.count }) o.buffer i
       (as_call s m room (eqb-true o.number 0 e)) in
       let g = rest f.next f.kept in
       record { next = g.next; kept = g.kept; joins = λ es a. f.joins _ (g.joins es a) }

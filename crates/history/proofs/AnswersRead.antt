@@ -19,15 +19,14 @@ use Rattle.answer.specs.declared.answer.Status.{Status}
 use Rattle.answer.specs.declared.answer.Status.TheVariants.{A, S, D, I, L, Over, Under}
 use Rattle.forms.specs.Forms.{plain_form, text_form}
 use Rattle.model.specs.declared.profile.Profile.{Profile}
-use Rattle.model.specs.declared.profile.Text20.{Text20}
-use Rattle.model.specs.declared.profile.Text40.{Text40}
+use Rattle.model.specs.declared.profile.Text.{Text}
 use Rattle.model.specs.declared.react.Reaction.{Reaction}
 use Rattle.model.specs.declared.state.Pending.{Pending}
-use Rattle.model.specs.declared.state.Pending.TheVariants.{Nothing, Weigh, Zero, Tare, Change}
+use Rattle.model.specs.declared.state.Pending.TheVariants.{Weigh, Zero, Tare, Change}
 use Rattle.model.specs.declared.state.State.{State}
 use Rattle.weight.specs.declared.loads.Load.{Load}
 use Rattle.model.specs.declared.weighing.Weighing.{Weighing}
-use Rattle.model.specs.Profiles.{profile_allowed, resolution_in, scale_of, text_of20, text_of40, text_allowed20, text_allowed40}
+use Rattle.model.specs.Profiles.{profile_allowed, resolution_in, scale_of, text_of, text_allowed}
 use Rattle.commands.specs.Reactions.{run, changing, identification_of, performed, byte_reaction, sending_as, situation_of}
 use Rattle.commands.proofs.Ways.{by_choice, run_cases, change_cases, sample_cases}
 use Rattle.model.specs.declared.sending.Mode.TheVariants.{Off}
@@ -66,18 +65,18 @@ use Rattle.weight.proofs.Allowed.{both_right}
 -- ---- the texts of I2 to I5
 
 -- a text that its line may carry
-form20 : (c : ℕ) (t : Text20) → has_text c ≡ true → text_allowed20 t ≡ true → text_form c (text_of20 t) ≡ true
+form20 : (c : ℕ) (t : Text 20) → has_text c ≡ true → text_allowed 20 t ≡ true → text_form c (text_of t) ≡ true
 form20 c t place e =
-    rw (place, le-leb (length (text_of20 t)) 20 (text_short 20 t.len t.bytes e), both_right (leb t.len 20) (is_printable (text_of20 t)) e)
+    rw (place, le-leb (length (text_of t)) 20 (text_short 20 t.len t.bytes e), both_right (leb t.len 20) (is_printable (text_of t)) e)
 
-form40 : (c : ℕ) (t : Text40) → has_text c ≡ true → leb c place_i3 ≡ true → text_allowed40 t ≡ true → text_form c (text_of40 t) ≡ true
+form40 : (c : ℕ) (t : Text 40) → has_text c ≡ true → leb c place_i3 ≡ true → text_allowed 40 t ≡ true → text_form c (text_of t) ≡ true
 form40 c t place first e =
     rw (
       place,
       first,
-      le-leb (length (text_of40 t)) 40 (text_short 40 t.len t.bytes e),
-      or-true (leb (length (text_of40 t)) 20),
-      both_right (leb t.len 40) (is_printable (text_of40 t)) e,
+      le-leb (length (text_of t)) 40 (text_short 40 t.len t.bytes e),
+      or-true (leb (length (text_of t)) 20),
+      both_right (leb t.len 40) (is_printable (text_of t)) e,
     )
 
 module _ (p : Profile) (allowed : profile_allowed p ≡ true) (v : WeightUnit) where
@@ -198,7 +197,6 @@ module _ (p : Profile) (allowed : profile_allowed p ≡ true) (w : Weighing) (ra
 
   -- what a waiting command answers at a stable sample
   settled_read : (pending : Pending) → w.stable ≡ true → ReadByHost p w.unit (settled p pending w).answer
-  settled_read Nothing stable = nothing_read p _
   settled_read Weigh stable = weighed_read
   settled_read Zero stable = zeroed_read w.unit place_z A refl refl refl
   settled_read Tare stable = tared_read place_t refl refl (λ fits sign. settled_form p at_gross w.stable stable (gross_of w) fits sign)
@@ -347,7 +345,6 @@ module _ (p : Profile) (allowed : profile_allowed p ≡ true) (s : State) (range
 
 -- what may wait is answered by I
 pending_form : (pending : Pending) → plain_form (place_of_pending pending) I ≡ true
-pending_form Nothing = refl
 pending_form Weigh = refl
 pending_form Zero = refl
 pending_form Tare = refl
@@ -359,11 +356,11 @@ module _ (p : Profile) (allowed : profile_allowed p ≡ true) (s : State) (range
   unfolding settled_reaction_by
   sample_read stable =
       sample_cases (ReadIn p) p s z stable
-      (λ waits e.
-      rw (unit_settled p s.waiting.pending (with_sample s.weighing z stable))
-      (settled_read p allowed (with_sample s.weighing z stable) range s.waiting.pending e))
-      (λ waits e most. plain_read p _ (place_of_pending s.waiting.pending) I (pending_form s.waiting.pending))
-      (λ waits e less. nothing_read p _)
+      (λ q waits e.
+      rw (unit_settled p q (with_sample s.weighing z stable))
+      (settled_read p allowed (with_sample s.weighing z stable) range q e))
+      (λ q waits e most. plain_read p _ (place_of_pending q) I (pending_form q))
+      (λ q waits e less. nothing_read p _)
       (λ none e. nothing_read p _)
       (λ none e. weighed_read p allowed (with_sample s.weighing z stable) range)
       (λ none e.

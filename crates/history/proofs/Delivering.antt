@@ -15,16 +15,16 @@ use Rattle.model.specs.declared.profile.Profile.{Profile}
 use Rattle.model.specs.declared.react.Reaction.{Reaction}
 use Rattle.model.specs.declared.state.State.{State}
 use Rattle.weight.specs.declared.loads.Load.{Load}
-use Rattle.model.specs.Refusals.{number_of_refusal}
-use Rattle.device.specs.Calls.{answer_bytes, delivered, of_profile, of_state, power_on_outcome, byte_outcome, sample_outcome, Outcome, Gives, PowerOnCalled, ByteCalled, SampleCalled}
+use Rattle.model.specs.Refusals.{number_of_outcome}
+use Rattle.device.specs.Calls.{answer_bytes, count_of, delivered, of_profile, of_state, power_on_outcome, byte_outcome, sample_outcome, Outcome, Gives, PowerOnCalled, ByteCalled, SampleCalled}
 use Rattle.model.specs.Profiles.{profile_allowed}
 use Rattle.commands.specs.Reactions.{byte_reaction}
 use Rattle.waiting.specs.Waits.{sample_reaction}
 use Rattle.model.specs.States.{state_allowed, start_state}
 
 pub data Delivered (p : Profile) (s : State) (x : Reaction) (r : Called) (buffer : List ℕ) : Type 0 where
-  given : number_of_refusal r.refusal ≡ 0 → r.state ≡ x.state → take r.count buffer ≡ answer_bytes p x.answer → Delivered p s x r buffer
-  withheld : number_of_refusal r.refusal ≡ 3 → r.state ≡ s → take r.count buffer ≡ [] → Delivered p s x r buffer
+  given : number_of_outcome r.outcome ≡ 0 → r.state ≡ x.state → take (count_of r.outcome) buffer ≡ answer_bytes p x.answer → Delivered p s x r buffer
+  withheld : number_of_outcome r.outcome ≡ 3 → r.state ≡ s → take (count_of r.outcome) buffer ≡ [] → Delivered p s x r buffer
 
 module _ (p : Profile) (s : State) (room : List ℕ) where
   by_room : (x : Reaction) {r : Called} {buffer : List ℕ} (fits : Bool) → fits_room (answer_bytes p x.answer) room ≡ fits
@@ -57,7 +57,7 @@ module _ (p : Profile) (s : State) (room : List ℕ) where
 pub record Started (p : Profile) (r : Called) (buffer : List ℕ) : Type 0 where
   pub profile : profile_allowed p ≡ true
   pub state : r.state ≡ start_state
-  pub sent : take r.count buffer ≡ answer_bytes p (Text place_i4)
+  pub sent : take (count_of r.outcome) buffer ≡ answer_bytes p (Text place_i4)
 
 -- the same of its outcome
 record Opened (p : Profile) (o : Outcome) : Type 0 where
@@ -79,7 +79,7 @@ module _ (p : Profile) (earlier : State) (room : List ℕ) where
   started_by_lem true false e f n = absurd (omega (arith, rw (e, f) at n))
   started_by_lem false fits e f n = absurd (omega (arith, rw e at n))
 
-  pub started : {r : Called} {buffer : List ℕ} → PowerOnCalled p earlier room r buffer → number_of_refusal r.refusal ≡ 0 → Started p r buffer
+  pub started : {r : Called} {buffer : List ℕ} → PowerOnCalled p earlier room r buffer → number_of_outcome r.outcome ≡ 0 → Started p r buffer
   started c n =
       let o : Opened p (power_on_outcome p earlier room) =
       started_by_lem (profile_allowed p) (fits_room (answer_bytes p (Text place_i4)) room) refl refl (sym c.gives.numbered ∙ n) in

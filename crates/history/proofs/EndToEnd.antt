@@ -12,8 +12,8 @@ use Rattle.device.specs.declared.call.Called.{Called}
 use Rattle.model.specs.declared.profile.Profile.{Profile}
 use Rattle.model.specs.declared.react.Reaction.{Reaction}
 use Rattle.model.specs.declared.state.State.{State}
-use Rattle.model.specs.Refusals.{number_of_refusal}
-use Rattle.device.specs.Calls.{answer_bytes}
+use Rattle.model.specs.Refusals.{number_of_outcome}
+use Rattle.device.specs.Calls.{answer_bytes, count_of}
 use Rattle.model.specs.Profiles.{profile_allowed}
 use Rattle.commands.specs.Reactions.{byte_reaction}
 use Rattle.waiting.specs.Waits.{sample_reaction}
@@ -49,9 +49,9 @@ read_followed
     : (p : Profile) (s : State) (t : Tally) (i : Input) (x : Reaction) {r : Called} {buffer : List ℕ}
     → Delivered p s x r buffer
     → ReadByHost p x.state.weighing.unit x.answer
-    → Stepped p t (record { input = i; refusal = number_of_refusal r.refusal; answer = take r.count buffer }) r.state
+    → Stepped p t (record { input = i; refusal = number_of_outcome r.outcome; answer = take (count_of r.outcome) buffer }) r.state
     → Followed Tally (FollowsState p) (host_accepts p) r.state t
-    (record { input = i; refusal = number_of_refusal r.refusal; answer = take r.count buffer })
+    (record { input = i; refusal = number_of_outcome r.outcome; answer = take (count_of r.outcome) buffer })
 unfolding host_accepts
 read_followed p s t i x (given none state answer) read stepped =
     let l = answer_bytes p x.answer in

@@ -27,7 +27,7 @@ use Rattle.line.proofs.Proper.{Proper, Ruled, judged_proper}
 use Rattle.model.specs.declared.profile.Profile.{Profile}
 use Rattle.model.specs.declared.sending.Mode.TheVariants.{Off}
 use Rattle.model.specs.declared.state.Pending.{Pending}
-use Rattle.model.specs.declared.state.Pending.TheVariants.{Nothing, Weigh, Zero, Tare, Change}
+use Rattle.model.specs.declared.state.Pending.TheVariants.{Weigh, Zero, Tare, Change}
 use Rattle.model.specs.declared.state.State.{State}
 use Rattle.model.specs.declared.weighing.Weighing.{Weighing}
 use Rattle.model.specs.Groups.{with_line, with_sending}
@@ -114,7 +114,6 @@ module _ (p : Profile) (unranged : p.fine ≡ p.capacity) where
       rw (resolution_tared p w m) (ap (λ (r : Resolution). number_in r (pos m)) (fine_by w (pos m) (le-ltb p.capacity m range)))
 
   settled_fine : (pending : Pending) (w : Weighing) → IsFine p (settled p pending w).weighing (settled p pending w).answer
-  settled_fine Nothing w = tt
   settled_fine Weigh w = weighed_fine w
   settled_fine Zero w = zeroed_fine w _ _
   settled_fine Tare w = tared_fine w place_t refl
@@ -181,9 +180,9 @@ module _ (p : Profile) (unranged : p.fine ≡ p.capacity) where
   unfolding settled_reaction_by
   sample_fine s z stable =
       sample_cases (FineReaction p) p s z stable
-      (λ waits e. settled_fine s.waiting.pending (with_sample s.weighing z stable))
-      (λ waits e most. tt)
-      (λ waits e less. tt)
+      (λ q waits e. settled_fine q (with_sample s.weighing z stable))
+      (λ q waits e most. tt)
+      (λ q waits e less. tt)
       (λ none e. tt)
       (λ none e. weighed_fine (with_sample s.weighing z stable))
       (λ none e.

@@ -10,7 +10,7 @@ use Rattle.commands.specs.Reactions.{byte_reaction, situation_of}
 use Rattle.commands.proofs.StaysAllowed.{byte_allowed, sample_allowed}
 use Rattle.commands.proofs.Ways.{by_choice}
 use Rattle.device.specs.declared.call.Called.{Called}
-use Rattle.device.specs.Calls.{answer_bytes}
+use Rattle.device.specs.Calls.{answer_bytes, count_of}
 use Rattle.line.specs.declared.judge.Verdict.{Verdict}
 use Rattle.line.specs.declared.receive.Line.{Line}
 use Rattle.line.specs.Judging.{judgement}
@@ -22,7 +22,7 @@ use Rattle.model.specs.declared.react.Reaction.{Reaction}
 use Rattle.model.specs.declared.state.State.{State}
 use Rattle.model.specs.Groups.{with_line}
 use Rattle.model.specs.Profiles.{profile_allowed}
-use Rattle.model.specs.Refusals.{number_of_refusal}
+use Rattle.model.specs.Refusals.{number_of_outcome}
 use Rattle.model.specs.States.{start_state}
 use Rattle.waiting.specs.Waits.{sample_reaction}
 use Rattle.history.specs.OnChange.{Sends, Sender, start_sender, sends_after, sends_hold, after_call, sender_holds, SentOnChange}
@@ -81,11 +81,11 @@ sent_followed
     : (p : Profile) (s : State) (f : Sender) (i : Input) (x : Reaction) {r : Called} {buffer : List ℕ}
     → FollowsSender p s f
     → Delivered p s x r buffer
-    → Stepped p f.tally (record { input = i; refusal = number_of_refusal r.refusal; answer = take r.count buffer }) r.state
+    → Stepped p f.tally (record { input = i; refusal = number_of_outcome r.outcome; answer = take (count_of r.outcome) buffer }) r.state
     → Reacts p f.waits i x
     → ((t : Tally) → Follows x.state.weighing t → Sent p f.waits i f.sends x t)
     → Followed Sender (FollowsSender p) (sender_holds p) r.state f
-    (record { input = i; refusal = number_of_refusal r.refusal; answer = take r.count buffer })
+    (record { input = i; refusal = number_of_outcome r.outcome; answer = take (count_of r.outcome) buffer })
 unfolding sender_holds
 sent_followed p s f i x old (given none state answer) stepped reacts sent =
     let e : Event = record { input = i; refusal = 0; answer = answer_bytes p x.answer } in

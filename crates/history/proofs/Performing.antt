@@ -1,15 +1,16 @@
 -- What a finished line does to the wait: it is answered and changes nothing there, or it is @, or it begins a wait.
 -- Assumes nothing.
-use mathlib.Core.Path.{◌≡◌, refl, sym, ap, ◌∙◌}
+use mathlib.Core.Path.{◌≡◌, refl}
 use mathlib.Core.Bool.{Bool, true, false, ◌&&◌, ◌||◌}
 use mathlib.Core.List.{List}
+use Rattle.std.specs.Prelude.{Option, Some, None}
 use Prim.Native.Nat.{ℕ}
 use Rattle.answer.specs.declared.answer.Status.TheVariants.{A}
 use Rattle.answer.specs.Commands.{name_of, place_t, place_ti, place_z, place_zi}
 use Rattle.model.specs.declared.profile.Profile.{Profile}
 use Rattle.model.specs.declared.react.Reaction.{Reaction}
 use Rattle.model.specs.declared.state.Pending.{Pending}
-use Rattle.model.specs.declared.state.Pending.TheVariants.{Nothing, Weigh, Zero, Tare, Change}
+use Rattle.model.specs.declared.state.Pending.TheVariants.{Weigh, Zero, Tare, Change}
 use Rattle.model.specs.declared.state.State.{State}
 use Rattle.model.specs.declared.weighing.Weighing.{Weighing}
 use Rattle.commands.specs.Reactions.{run, changing, reset_state, sending_as, performed}
@@ -36,21 +37,25 @@ use Rattle.history.proofs.Verdicts.{resets}
 abbrev pub is_wait_name : List ℕ → Bool
 is_wait_name t = same_text t (ascii "S") || same_text t (ascii "T") || same_text t (ascii "Z") || is_change_line t
 
--- what waits, as the record of waits has it
-abbrev pub awaited_of : Pending → Awaited
-awaited_of Nothing = nothing
-awaited_of Weigh = command (ascii "S")
-awaited_of Zero = command (ascii "Z")
-awaited_of Tare = command (ascii "T")
-awaited_of Change = command (ascii "S")
+-- a command that waits, as the record of waits has it
+abbrev pub awaited_by : Pending → Awaited
+awaited_by Weigh = command (ascii "S")
+awaited_by Zero = command (ascii "Z")
+awaited_by Tare = command (ascii "T")
+awaited_by Change = command (ascii "S")
+
+-- and what waits, if one does
+abbrev pub awaited_of : Option Pending → Awaited
+awaited_of None = nothing
+awaited_of (Some q) = awaited_by q
 
 -- it has a command exactly where one is pending
-pub awaiting_is : (q : Pending) → is_awaiting (awaited_of q) ≡ is_pending q
-awaiting_is Nothing = refl
-awaiting_is Weigh = refl
-awaiting_is Zero = refl
-awaiting_is Tare = refl
-awaiting_is Change = refl
+pub awaiting_is : (q : Option Pending) → is_awaiting (awaited_of q) ≡ is_pending q
+awaiting_is None = refl
+awaiting_is (Some Weigh) = refl
+awaiting_is (Some Zero) = refl
+awaiting_is (Some Tare) = refl
+awaiting_is (Some Change) = refl
 
 -- a reaction x to a verdict v on a line that s had received
 pub data Performed (s : State) (v : Verdict) (x : Reaction) : Type 0 where
@@ -59,15 +64,15 @@ pub data Performed (s : State) (v : Verdict) (x : Reaction) : Type 0 where
   begins : (c : ℕ) (pending : Pending)
       → v ≡ Run c
       → is_wait_name (name_of c) ≡ true
-      → awaited_of pending ≡ command (identification_in (name_of c))
+      → awaited_by pending ≡ command (identification_in (name_of c))
       → is_silent x.answer ≡ true
-      → x.state.waiting ≡ record { pending = pending; unstable = 0 }
+      → x.state.waiting ≡ record { pending = Some pending; unstable = 0 }
       → x.state.line ≡ s.line
       → Performed s v x
   changes : (t : Threshold)
       → v ≡ verdicts.Change t
       → is_silent x.answer ≡ true
-      → x.state.waiting ≡ record { pending = Change; unstable = 0 }
+      → x.state.waiting ≡ record { pending = Some Change; unstable = 0 }
       → x.state.line ≡ s.line
       → Performed s v x
 
@@ -79,17 +84,15 @@ same_line (begins c pending runs named waits silent now line) = line
 same_line (changes t runs silent now line) = line
 
 -- what a waiting command makes of a stable sample is sent
-pub settled_sent : (p : Profile) (pending : Pending) (w : Weighing) → is_pending pending ≡ true → is_silent (settled p pending w).answer ≡ false
-settled_sent p Nothing w e = sym e
-settled_sent p Weigh w e = weighed_sent p w
-settled_sent p Zero w e = zeroed_sent p w place_z A
-settled_sent p Tare w e = tared_sent p w place_t
-settled_sent p Change w e = weighed_sent p w
+pub settled_sent : (p : Profile) (pending : Pending) (w : Weighing) → is_silent (settled p pending w).answer ≡ false
+settled_sent p Weigh w = weighed_sent p w
+settled_sent p Zero w = zeroed_sent p w place_z A
+settled_sent p Tare w = tared_sent p w place_t
+settled_sent p Change w = weighed_sent p w
 
 -- and is an answer of that command
 pub settled_own : (p : Profile) (n : ℕ) (pending : Pending) (w : Weighing) → w.stable ≡ true
-    → awaited_holds p n (awaited_of pending) true (answer_bytes p (settled p pending w).answer) ≡ true
-settled_own p n Nothing w e = refl
+    → awaited_holds p n (awaited_by pending) true (answer_bytes p (settled p pending w).answer) ≡ true
 settled_own p n Weigh w e = weighed_own p w e
 settled_own p n Zero w e = zeroed_own p w
 settled_own p n Tare w e = tared_own p w e
@@ -97,12 +100,12 @@ settled_own p n Change w e = weighed_own p w e
 
 module _ (p : Profile) (s : State) (c : ℕ) where
   -- S, Z, T or SR begins, from a state whose line and wait are those of s
-  begun_kind : (t : State) (pending : Pending) → t.waiting ≡ s.waiting → t.line ≡ s.line → awaited_of pending ≡ command (identification_in (name_of c))
+  begun_kind : (t : State) (pending : Pending) → t.waiting ≡ s.waiting → t.line ≡ s.line → awaited_by pending ≡ command (identification_in (name_of c))
       → is_wait_name (name_of c) ≡ true → Performed s (Run c) (begun p t pending)
   unfolding begun_by settled_reaction_by
   begun_kind t pending same line waits named =
       by_choice (Performed s (Run c)) (t.weighing.sampled && t.weighing.stable)
-      (λ e. answered refl (settled_sent p pending t.weighing (sym (awaiting_is pending) ∙ ap is_awaiting waits)) same line)
+      (λ e. answered refl (settled_sent p pending t.weighing) same line)
       (λ e. begins c pending refl named waits refl refl line)
 
   -- of the commands only S, Z, T and SR begin a wait

@@ -1,5 +1,6 @@
 -- How an answer is split after every CR LF: the line of a form is one piece, and a line before more bytes is the first of theirs.
 -- Assumes nothing.
+use Rattle.std.specs.Prelude.{unwrap_or}
 use Prim.Native.Nat.{ℕ, zero, suc, ◌-◌, ◌/◌, ◌%◌, ◌^◌}
 use native.Mathlib.Omega.{arith}
 use mathlib.Core.Path.{◌≡◌, refl, sym, ap, ◌∙◌}
@@ -26,7 +27,7 @@ use Rattle.text.specs.Printable.{is_printable}
 use Rattle.weight.specs.Characters.{digit, space}
 use Rattle.text.specs.Ascii.{ascii}
 use Rattle.weight.specs.Places.{last_digits, digits_in, digits_of, decimal_of, number_text, width_of, fits_field}
-use Rattle.text.specs.Field.{aligned_in, field_of, blank}
+use Rattle.text.specs.Field.{aligned_in, field_of, blank, field_if}
 use Rattle.text.specs.UnitTexts.{unit_text, unit_code}
 use Rattle.weight.specs.declared.units.WeightUnit.{WeightUnit}
 use Rattle.weight.specs.declared.units.WeightUnit.TheVariants.{G, Mg, Ct, Oz, Ozt, Gn, Dwt, Kg, Lb}
@@ -142,7 +143,7 @@ unfolding field_of
 field_unbroken true d n = joined (aligned_in 9 d n) (space ∷ []) (aligned_unbroken 9 d n) refl
 field_unbroken false d n = aligned_unbroken 10 d n
 
-cells_unbroken : (fits c : Bool) (d : ℕ) (n : ℤ) → unbroken (cond fits (field_of c d n) blank) ≡ true
+cells_unbroken : (fits c : Bool) (d : ℕ) (n : ℤ) → unbroken (unwrap_or (field_if fits c d n) blank) ≡ true
 cells_unbroken true c d n = field_unbroken c d n
 cells_unbroken false c d n = refl
 
@@ -173,7 +174,7 @@ code_unbroken Lb = refl
 weight_unbroken : (n : Number) → unbroken (weight_text n) ≡ true
 unfolding weight_text
 weight_unbroken n =
-    let f = cond (fits_field n.coarse n.decimals n.places.0) (field_of n.coarse n.decimals n.places.0) blank in
+    let f = unwrap_or (field_if (fits_field n.coarse n.decimals n.places.0) n.coarse n.decimals n.places.0) blank in
     joined (f ++ ascii " ") (unit_text n.unit)
     (joined f (ascii " ") (cells_unbroken (fits_field n.coarse n.decimals n.places.0) n.coarse n.decimals n.places.0) refl)
     (unit_unbroken n.unit)

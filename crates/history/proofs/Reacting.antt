@@ -1,5 +1,6 @@
 -- The tally accepts what a finished line and a sample make of the state, and follows it.
 -- Assumes nothing.
+use Rattle.std.specs.Prelude.{Some}
 use Prim.Native.Nat.{ℕ, ◌≤◌}
 use mathlib.Core.Path.{◌≡◌, refl}
 use mathlib.Core.Bool.{Bool, true, false, cond, ◌&&◌}
@@ -14,7 +15,7 @@ use Rattle.answer.specs.Commands.{name_of, needs_sample, place_t, place_ti, plac
 use Rattle.model.specs.declared.profile.Profile.{Profile}
 use Rattle.model.specs.declared.react.Reaction.{Reaction}
 use Rattle.model.specs.declared.state.Pending.{Pending}
-use Rattle.model.specs.declared.state.Pending.TheVariants.{Nothing, Weigh, Zero, Tare, Change}
+use Rattle.model.specs.declared.state.Pending.TheVariants.{Weigh, Zero, Tare, Change}
 use Rattle.model.specs.declared.state.State.{State}
 use Rattle.weight.specs.declared.loads.Load.{Load}
 use Rattle.model.specs.declared.weighing.Weighing.{Weighing}
@@ -74,7 +75,6 @@ module _
         → w.sampled ≡ true
         → w.stable ≡ true
         → Answered p t i (settled p pending w).weighing (answer_bytes p (settled p pending w).answer)
-    settled_answered w Nothing f range sampled stable = answered_quietly p t i w not-reset f _ (nothing_silent p)
     settled_answered w Weigh f range sampled stable = answered_weighed p t i w not-reset f allowed range sampled
     settled_answered w Zero f range sampled stable = answered_zeroed p t i w not-reset f place_z A (zeroed_zeroes p) sampled
     settled_answered w Tare f range sampled stable =
@@ -96,7 +96,7 @@ module _
             → Reacted p t i
             (chosen_reaction (sampled && stable)
             (settled_reaction p s pending)
-            (reaction (with_waiting s (record { pending = pending; unstable = 0 })) answers.Nothing))
+            (reaction (with_waiting s (record { pending = Some pending; unstable = 0 })) answers.Nothing))
         unfolding settled_reaction_by
         begun_by_lem true true pending h k = settled_answered s.weighing pending f range h k
         begun_by_lem true false pending h k = answered_quietly p t i s.weighing not-reset f _ (nothing_silent p)
@@ -242,11 +242,11 @@ module _
     unfolding settled_reaction_by
     sample_reacted stable =
         sample_cases (Reacted p t (sample_is z.0 stable)) p s z stable
-        (λ waits e.
-        settled_answered p allowed t (sample_is z.0 stable) (sample_not_reset stable) (with_sample s.weighing z stable) s.waiting.pending
+        (λ q waits e.
+        settled_answered p allowed t (sample_is z.0 stable) (sample_not_reset stable) (with_sample s.weighing z stable) q
         (sample_followed stable) range refl e)
-        (λ waits e most. passed_over stable _ (unready_silent p (place_of_pending s.waiting.pending)))
-        (λ waits e less. passed_over stable _ (nothing_silent p))
+        (λ q waits e most. passed_over stable _ (unready_silent p (place_of_pending q)))
+        (λ q waits e less. passed_over stable _ (nothing_silent p))
         (λ none e. passed_over stable _ (nothing_silent p))
         (λ none e. weight_sent stable)
         (λ none e.

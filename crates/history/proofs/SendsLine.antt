@@ -1,5 +1,6 @@
 -- What a finished line does to what is sent unasked: the follower of SR goes with the state.
 -- Assumes nothing.
+use Rattle.std.specs.Prelude.{Option, Some, None}
 use mathlib.Core.Path.{◌≡◌, refl, sym, ap, ◌∙◌}
 use mathlib.Core.Bool.{Bool, true, false, cond, ◌&&◌, ◌||◌, and-false, or-false, false≢true}
 use mathlib.Core.List.{List, ◌++◌, map}
@@ -26,7 +27,7 @@ use Rattle.model.specs.declared.sending.Mode.{Mode}
 use Rattle.model.specs.declared.sending.Mode.TheVariants.{Off, EachSample, OnChange}
 use Rattle.model.specs.declared.sending.Sending.{Sending}
 use Rattle.model.specs.declared.state.Pending.{Pending}
-use Rattle.model.specs.declared.state.Pending.TheVariants.{Nothing, Weigh, Zero, Tare, Change}
+use Rattle.model.specs.declared.state.Pending.TheVariants.{Weigh, Zero, Tare, Change}
 use Rattle.model.specs.declared.state.State.{State}
 use Rattle.model.specs.declared.weighing.Weighing.{Weighing}
 use Rattle.model.specs.Groups.{reaction, with_mode, with_weighing}
@@ -56,12 +57,12 @@ sends_by Off c = off
 sends_by EachSample c = always
 sends_by OnChange c = running (record { last = c.last.0; threshold = c.threshold.0; owed = c.owed; outside = c.outside })
 
-abbrev pub sends_of : Pending → Sending → Sends
-sends_of Nothing c = sends_by c.mode c
-sends_of Weigh c = sends_by c.mode c
-sends_of Zero c = sends_by c.mode c
-sends_of Tare c = sends_by c.mode c
-sends_of Change c = asked c.threshold.0
+abbrev pub sends_of : Option Pending → Sending → Sends
+sends_of None c = sends_by c.mode c
+sends_of (Some Weigh) c = sends_by c.mode c
+sends_of (Some Zero) c = sends_by c.mode c
+sends_of (Some Tare) c = sends_by c.mode c
+sends_of (Some Change) c = asked c.threshold.0
 
 -- the follower goes with the state; while SR waits nothing else is sent
 pub record Follow (s : State) (x : Sends) : Type 0 where
@@ -69,19 +70,13 @@ pub record Follow (s : State) (x : Sends) : Type 0 where
   pub idle : is_change s.waiting.pending ≡ true → s.sending.mode ≡ Off
 
 -- no command waits
-pub free_sends : (q : Pending) (c : Sending) → is_pending q ≡ false → sends_of q c ≡ sends_by c.mode c
-free_sends Nothing c e = refl
-free_sends Weigh c e = absurd (false≢true (sym e))
-free_sends Zero c e = absurd (false≢true (sym e))
-free_sends Tare c e = absurd (false≢true (sym e))
-free_sends Change c e = absurd (false≢true (sym e))
+pub free_sends : (q : Option Pending) (c : Sending) → is_pending q ≡ false → sends_of q c ≡ sends_by c.mode c
+free_sends None c e = refl
+free_sends (Some q) c e = absurd (false≢true (sym e))
 
-pub free_idle : {A : Type 0} (q : Pending) → is_pending q ≡ false → is_change q ≡ true → A
-free_idle Nothing e c = absurd (false≢true c)
-free_idle Weigh e c = absurd (false≢true c)
-free_idle Zero e c = absurd (false≢true c)
-free_idle Tare e c = absurd (false≢true c)
-free_idle Change e c = absurd (false≢true (sym e))
+pub free_idle : {A : Type 0} (q : Option Pending) → is_pending q ≡ false → is_change q ≡ true → A
+free_idle None e c = absurd (false≢true c)
+free_idle (Some q) e c = absurd (false≢true (sym e))
 
 -- SR's first answer
 module _ (p : Profile) (w : Weighing) (c : Sending) (t : Tally) (off-before : c.mode ≡ Off) (stable : w.stable ≡ true) (net : net_in t ≡ net_of w) where
@@ -149,7 +144,7 @@ module _ (p : Profile) (s : State) (f : List Marked) (other : is_reset_line f �
 
   module _ (free : is_pending s.waiting.pending ≡ false) where
     -- T and Z
-    begun_kept : (q : Pending) (n : List ℕ) → sends_of q s.sending ≡ sends_by s.sending.mode s.sending → is_change q ≡ false
+    begun_kept : (q : Pending) (n : List ℕ) → sends_of (Some q) s.sending ≡ sends_by s.sending.mode s.sending → is_change (Some q) ≡ false
         → (settled_reaction p s q).state.sending ≡ s.sending
         → name_in f ≡ n → same_text n (ascii "S") ≡ false → same_text n (ascii "SI") ≡ false → same_text n (ascii "SIR") ≡ false → same_text n (ascii "SR") ≡ false
         → SentOf (begun p s q)

@@ -1,5 +1,6 @@
 -- What a sample does to what is sent unasked, and what of it is sent: the follower of SR agrees, and goes with the state.
 -- Assumes nothing.
+use Rattle.std.specs.Prelude.{Some}
 use mathlib.Core.Path.{◌≡◌, refl, sym, ap, ◌∙◌}
 use mathlib.Core.Bool.{Bool, true, false, cond, not, ◌&&◌, ◌||◌, or-false, or-true, false≢true}
 use mathlib.Core.List.{List}
@@ -18,7 +19,7 @@ use Rattle.model.specs.declared.sending.Mode.{Mode}
 use Rattle.model.specs.declared.sending.Mode.TheVariants.{Off, EachSample, OnChange}
 use Rattle.model.specs.declared.sending.Sending.{Sending}
 use Rattle.model.specs.declared.state.Pending.{Pending}
-use Rattle.model.specs.declared.state.Pending.TheVariants.{Nothing, Weigh, Zero, Tare, Change}
+use Rattle.model.specs.declared.state.Pending.TheVariants.{Weigh, Zero, Tare, Change}
 use Rattle.model.specs.declared.state.State.{State}
 use Rattle.model.specs.declared.weighing.Weighing.{Weighing}
 use Rattle.model.specs.Groups.{not_waiting, reaction, with_sending, with_waiting}
@@ -58,36 +59,32 @@ nothing_empty p = silent_empty p answers.Nothing
 
 module _ (p : Profile) (t : Tally) (c : Sending) where
   -- stable: the command is answered
-  settled_after : (q : Pending) (w : Weighing) → is_pending q ≡ true → (is_change q ≡ true → c.mode ≡ Off) → w.stable ≡ true
-      → (is_change q ≡ true → net_in t ≡ net_of w)
-      → after_awaited t (answer_bytes p (settled p q w).answer) (sends_of q c) ≡ sends_by (sending_of p q w c).mode (sending_of p q w c)
-  settled_after Nothing w e idle stable net = absurd (false≢true e)
-  settled_after Weigh w e idle stable net = awaited_same t (answer_bytes p (settled p Weigh w).answer) c.mode c
-  settled_after Zero w e idle stable net = awaited_same t (answer_bytes p (settled p Zero w).answer) c.mode c
-  settled_after Tare w e idle stable net = awaited_same t (answer_bytes p (settled p Tare w).answer) c.mode c
-  settled_after Change w e idle stable net = rw (heads p w).full (started_sends p w c t (idle refl) stable (net refl))
+  settled_after : (q : Pending) (w : Weighing) → (is_change (Some q) ≡ true → c.mode ≡ Off) → w.stable ≡ true
+      → (is_change (Some q) ≡ true → net_in t ≡ net_of w)
+      → after_awaited t (answer_bytes p (settled p q w).answer) (sends_of (Some q) c) ≡ sends_by (sending_of p q w c).mode (sending_of p q w c)
+  settled_after Weigh w idle stable net = awaited_same t (answer_bytes p (settled p Weigh w).answer) c.mode c
+  settled_after Zero w idle stable net = awaited_same t (answer_bytes p (settled p Zero w).answer) c.mode c
+  settled_after Tare w idle stable net = awaited_same t (answer_bytes p (settled p Tare w).answer) c.mode c
+  settled_after Change w idle stable net = rw (heads p w).full (started_sends p w c t (idle refl) stable (net refl))
 
   -- the W-th unstable one: SR is off
-  timeout_after : (q : Pending) → is_pending q ≡ true → (is_change q ≡ true → c.mode ≡ Off)
-      → after_awaited t (answer_bytes p (answers.Plain (head_of (place_of_pending q) I))) (sends_of q c) ≡ sends_by c.mode c
+  timeout_after : (q : Pending) → (is_change (Some q) ≡ true → c.mode ≡ Off)
+      → after_awaited t (answer_bytes p (answers.Plain (head_of (place_of_pending q) I))) (sends_of (Some q) c) ≡ sends_by c.mode c
   unfolding answer_bytes line_of head_text
-  timeout_after Nothing e idle = absurd (false≢true e)
-  timeout_after Weigh e idle = awaited_same t (answer_bytes p (answers.Plain (head_of (place_of_pending Weigh) I))) c.mode c
-  timeout_after Zero e idle = awaited_same t (answer_bytes p (answers.Plain (head_of (place_of_pending Zero) I))) c.mode c
-  timeout_after Tare e idle = awaited_same t (answer_bytes p (answers.Plain (head_of (place_of_pending Tare) I))) c.mode c
-  timeout_after Change e idle = rw (idle refl)
+  timeout_after Weigh idle = awaited_same t (answer_bytes p (answers.Plain (head_of (place_of_pending Weigh) I))) c.mode c
+  timeout_after Zero idle = awaited_same t (answer_bytes p (answers.Plain (head_of (place_of_pending Zero) I))) c.mode c
+  timeout_after Tare idle = awaited_same t (answer_bytes p (answers.Plain (head_of (place_of_pending Tare) I))) c.mode c
+  timeout_after Change idle = rw (idle refl)
 
   -- one before it
-  counted_after : (q : Pending) → is_pending q ≡ true → after_awaited t (answer_bytes p answers.Nothing) (sends_of q c) ≡ sends_of q c
-  counted_after Nothing e = absurd (false≢true e)
-  counted_after Weigh e = awaited_same t (answer_bytes p answers.Nothing) c.mode c
-  counted_after Zero e = awaited_same t (answer_bytes p answers.Nothing) c.mode c
-  counted_after Tare e = awaited_same t (answer_bytes p answers.Nothing) c.mode c
-  counted_after Change e = rw (nothing_empty p)
+  counted_after : (q : Pending) → after_awaited t (answer_bytes p answers.Nothing) (sends_of (Some q) c) ≡ sends_of (Some q) c
+  counted_after Weigh = awaited_same t (answer_bytes p answers.Nothing) c.mode c
+  counted_after Zero = awaited_same t (answer_bytes p answers.Nothing) c.mode c
+  counted_after Tare = awaited_same t (answer_bytes p answers.Nothing) c.mode c
+  counted_after Change = rw (nothing_empty p)
 
 -- SR leaves the weighing alone
-settled_same : (p : Profile) (q : Pending) (w : Weighing) → is_change q ≡ true → (settled p q w).weighing ≡ w
-settled_same p Nothing w e = absurd (false≢true e)
+settled_same : (p : Profile) (q : Pending) (w : Weighing) → is_change (Some q) ≡ true → (settled p q w).weighing ≡ w
 settled_same p Weigh w e = absurd (false≢true e)
 settled_same p Zero w e = absurd (false≢true e)
 settled_same p Tare w e = absurd (false≢true e)
@@ -157,13 +154,16 @@ module _
     Sent r = (t : Tally) → Follows r.state.weighing t → SampleSent p w z.0 stable x r t
 
     -- a command waits
-    awaited_sent : (r : Reaction) (t : Tally) → is_pending s.waiting.pending ≡ true
-        → after_awaited t (answer_bytes p r.answer) (sends_of s.waiting.pending s.sending) ≡ sends_of r.state.waiting.pending r.state.sending
+    awaited_sent : (q : Pending) (r : Reaction) (t : Tally) → s.waiting.pending ≡ Some q
+        → after_awaited t (answer_bytes p r.answer) (sends_of (Some q) s.sending) ≡ sends_of r.state.waiting.pending r.state.sending
         → (is_change r.state.waiting.pending ≡ true → r.state.sending.mode ≡ Off)
         → SampleSent p w z.0 stable x r t
     unfolding sends_hold sends_after
-    awaited_sent r t waits after idle =
-        record { holds = rw (awaits, waits); follow = record { sends = rw (awaits, waits, old.sends) after; idle = idle } }
+    awaited_sent q r t waits after idle =
+        record { holds = rw (awaits, waits); follow = record { sends = rw (awaits, old.sends, waits) after; idle = idle } }
+
+    idle_of : (q : Pending) → s.waiting.pending ≡ Some q → is_change (Some q) ≡ true → s.sending.mode ≡ Off
+    idle_of q waits h = old.idle (ap is_change waits ∙ h)
 
     -- none waits
     module _ (free : is_pending s.waiting.pending ≡ false) where
@@ -240,20 +240,19 @@ module _
     unfolding settled_reaction_by
     sample_sent profile allowed =
         let v : State = sampled_state s z stable in
-        let q : Pending = s.waiting.pending in
         sample_cases Sent p s z stable
-        (λ waits e t g.
-        awaited_sent (settled_reaction p (with_waiting v not_waiting) q) t waits
-        (settled_after p t s.sending q v.weighing waits old.idle e (λ h. net_in_lem v.weighing t (rw (settled_same p q v.weighing h) at g) refl))
+        (λ q waits e t g.
+        awaited_sent q (settled_reaction p (with_waiting v not_waiting) q) t waits
+        (settled_after p t s.sending q v.weighing (idle_of q waits) e (λ h. net_in_lem v.weighing t (rw (settled_same p q v.weighing h) at g) refl))
         (λ h. absurd (false≢true h)))
-        (λ waits e most t g.
-        awaited_sent (reaction (with_waiting v not_waiting) (answers.Plain (head_of (place_of_pending q) I))) t waits
-        (timeout_after p t s.sending q waits old.idle)
+        (λ q waits e most t g.
+        awaited_sent q (reaction (with_waiting v not_waiting) (answers.Plain (head_of (place_of_pending q) I))) t waits
+        (timeout_after p t s.sending q (idle_of q waits))
         (λ h. absurd (false≢true h)))
-        (λ waits e less t g.
-        awaited_sent (reaction (with_waiting v (record { pending = q; unstable = s.waiting.unstable + 1 })) answers.Nothing) t waits
-        (counted_after p t s.sending q waits)
-        old.idle)
+        (λ q waits e less t g.
+        awaited_sent q (reaction (with_waiting v (record { pending = Some q; unstable = s.waiting.unstable + 1 })) answers.Nothing) t waits
+        (counted_after p t s.sending q)
+        (idle_of q waits))
         (λ free e t g. unasked_sent free (reaction v answers.Nothing) t off (as_mode free Off e) refl (nothing_empty p) (rw e))
         (λ free e t g.
         unasked_sent free (reaction v (weighed p v.weighing)) t always (as_mode free EachSample e) refl

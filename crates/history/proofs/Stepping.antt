@@ -12,8 +12,8 @@ use Rattle.model.specs.declared.profile.Profile.{Profile}
 use Rattle.model.specs.declared.react.Reaction.{Reaction}
 use Rattle.model.specs.declared.state.State.{State}
 use Rattle.weight.specs.declared.loads.Load.{Load}
-use Rattle.model.specs.Refusals.{number_of_refusal}
-use Rattle.device.specs.Calls.{answer_bytes, ByteCalled, SampleCalled}
+use Rattle.model.specs.Refusals.{number_of_outcome}
+use Rattle.device.specs.Calls.{answer_bytes, count_of, ByteCalled, SampleCalled}
 use Rattle.model.specs.Profiles.{profile_allowed}
 use Rattle.commands.specs.Reactions.{performed, byte_reaction, situation_of}
 use Rattle.commands.proofs.StaysAllowed.{byte_allowed, sample_allowed}
@@ -70,7 +70,7 @@ delivered_stepped
     → Delivered p s x r buffer
     → state_allowed p x.state ≡ true
     → Reacted p t i x × Keeps x.state.line (taken t i).line
-    → Stepped p t (record { input = i; refusal = number_of_refusal r.refusal; answer = take r.count buffer }) r.state
+    → Stepped p t (record { input = i; refusal = number_of_outcome r.outcome; answer = take (count_of r.outcome) buffer }) r.state
 unfolding event_holds event_shows after_event
 delivered_stepped p s t i x kept (given none state answer) allowed reacted =
     record {
@@ -136,7 +136,7 @@ module _ (p : Profile) (profile : profile_allowed p ≡ true) (s : State) (t : T
 sample_line : (p : Profile) (s : State) (z : Load) (stable : Bool) → (sample_reaction p s z stable).state.line ≡ s.line
 unfolding settled_reaction_by
 sample_line p s z stable =
-    sample_cases (λ x. x.state.line ≡ s.line) p s z stable (λ w e. refl) (λ w e m. refl) (λ w e l. refl) (λ n e. refl) (λ n e. refl)
+    sample_cases (λ x. x.state.line ≡ s.line) p s z stable (λ q w e. refl) (λ q w e m. refl) (λ q w e l. refl) (λ n e. refl) (λ n e. refl)
     (λ n e. change_cases (λ x. x.state.line ≡ s.line) p (sampled_state s z stable) (λ o t. refl) (λ o t. refl) (λ i d. refl) (λ i d. refl))
 
 module _ (p : Profile) (profile : profile_allowed p ≡ true) (s : State) (t : Tally) (kept : FollowsState p s t) (z : Load) (stable : Bool) where

@@ -12,7 +12,7 @@ use lib.Signed.{lt_z}
 use Rattle.model.specs.declared.profile.Profile.{Profile}
 use Rattle.weight.specs.declared.rounding.Resolution.{Resolution}
 use Rattle.weight.specs.declared.amount.Tare.{Tare}
-use Rattle.weight.specs.declared.amount.Typed.TheVariants.{Amount}
+use Rattle.std.specs.Prelude.{Ok}
 use Rattle.text.specs.Reading.{is_decimal, decimals_in, value_in}
 use Rattle.weight.specs.Rounding.{exact_femtograms, half_up, places_of, Near}
 use Rattle.weight.specs.Presets.{preset_places, preset_micrograms, preset_femtograms}
@@ -35,7 +35,7 @@ pub record TypedAs (capacity : ℕ) (r : Resolution) (t : List ℕ) (m : ℕ) : 
   pub printed : places_of r (pos m) ≡ pos (preset_places r (decimals_in t) (value_in t))
 
 -- a number that TA takes is such a one
-pub typed_as : (capacity : ℕ) (r : Resolution) (t : List ℕ) (m : Tare) → read_preset r t ≡ Amount m → m.0 ≤ capacity → TypedAs capacity r t m.0
+pub typed_as : (capacity : ℕ) (r : Resolution) (t : List ℕ) (m : Tare) → read_preset r t ≡ Ok m → m.0 ≤ capacity → TypedAs capacity r t m.0
 typed_as capacity r t m e h =
     let of = preset_of_lem r t e in
     record {

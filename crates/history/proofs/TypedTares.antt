@@ -20,7 +20,7 @@ use Rattle.text.specs.UnitTexts.{unit_text}
 use Rattle.text.proofs.ReadBack.{typed_back}
 use Rattle.text.proofs.TypedText.{preset_read_again}
 use Rattle.weighing.specs.Weighings.{resolution_by, tare_answer}
-use Rattle.weight.specs.declared.amount.Typed.TheVariants.{Amount}
+use Rattle.std.specs.Prelude.{Ok}
 use Rattle.weight.specs.declared.rounding.Resolution.{Resolution}
 use Rattle.weight.specs.Places.{fits_field}
 use Rattle.weight.specs.Presets.{preset_places}
@@ -50,7 +50,7 @@ typed_again p s s' f f' m allowed unranged force judged bytes good free =
     let rounds : (x : List ℕ) → preset_resolution p.capacity p.fine r x ≡ r = λ x. unranged_preset p.capacity p.fine r x unranged ∙ fine_itself p w in
     let tells : resolution_by (scale_of p w) (pos m.0) ≡ r =
     ap (λ (c : Bool). ranged c r) (rw unranged (le-ltb p.capacity m.0 line.within)) ∙ fine_itself p w in
-    let read : read_preset r t ≡ Amount m = subst (λ (x : Resolution). read_preset x t ≡ Amount m) (rounds t) line.number in
+    let read : read_preset r t ≡ Ok m = subst (λ (x : Resolution). read_preset x t ≡ Ok m) (rounds t) line.number in
     let typed = typed_as p.capacity r t m read line.within in
     let prints = subst (λ (x : Resolution). printable x (pos m.0) ≡ true) tells (tare_printable p allowed w m.0 line.within) in
     let fits : fits_field false r.decimals (pos n) ≡ true =

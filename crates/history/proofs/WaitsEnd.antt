@@ -10,8 +10,8 @@ use Rattle.device.specs.declared.call.Called.{Called}
 use Rattle.model.specs.declared.profile.Profile.{Profile}
 use Rattle.model.specs.declared.react.Reaction.{Reaction}
 use Rattle.model.specs.declared.state.State.{State}
-use Rattle.model.specs.Refusals.{number_of_refusal}
-use Rattle.device.specs.Calls.{answer_bytes}
+use Rattle.model.specs.Refusals.{number_of_outcome}
+use Rattle.device.specs.Calls.{answer_bytes, count_of}
 use Rattle.device.proofs.Took.{lengths_alone}
 use Rattle.model.specs.Profiles.{profile_allowed}
 use Rattle.commands.specs.Reactions.{performed, byte_reaction, situation_of}
@@ -70,7 +70,7 @@ byte_reacts p s w b bad old =
 delivered_followed : (p : Profile) (s : State) (w : Waits) (i : Input) (x : Reaction) {r : Called} {buffer : List ℕ} → Delivered p s x r buffer
     → Follows p s w → Reacts p w i x
     → Followed Waits (Follows p) (waits_hold p) r.state w
-    (record { input = i; refusal = number_of_refusal r.refusal; answer = take r.count buffer })
+    (record { input = i; refusal = number_of_outcome r.outcome; answer = take (count_of r.outcome) buffer })
 unfolding waits_hold
 delivered_followed p s w i x (given none state answer) old new =
     record {

@@ -1,5 +1,6 @@
 -- One call's reaction against the record of waits: what is asked of its answer holds, and the record follows the state again.
 -- Assumes nothing.
+use Rattle.std.specs.Prelude.{Option, Some, None}
 use mathlib.Core.Path.{◌≡◌, refl, sym, ap, ◌∙◌}
 use mathlib.Core.Bool.{Bool, true, false, cond, not, ◌&&◌, ◌||◌, false≢true, true≢false}
 use mathlib.Core.List.{List, [], ◌∷◌, map}
@@ -12,7 +13,7 @@ use Rattle.answer.specs.Lines.{head_text, line_of, head_of}
 use Rattle.model.specs.declared.profile.Profile.{Profile}
 use Rattle.model.specs.declared.react.Reaction.{Reaction}
 use Rattle.model.specs.declared.state.Pending.{Pending}
-use Rattle.model.specs.declared.state.Pending.TheVariants.{Nothing, Weigh, Zero, Tare, Change}
+use Rattle.model.specs.declared.state.Pending.TheVariants.{Weigh, Zero, Tare, Change}
 use Rattle.model.specs.declared.state.State.{State}
 use Rattle.weight.specs.declared.loads.Load.{Load}
 use Rattle.device.specs.Calls.{answer_bytes}
@@ -32,7 +33,7 @@ use Rattle.model.proofs.StateFacts.{allowed_state}
 use Rattle.history.specs.Tally.{Input, byte_is, sample_is, is_reset_line}
 use Rattle.history.specs.Waits.{Waits, nothing, command, is_awaiting, is_empty, may_wait, identification_in, after_line, after_input, byte_holds, awaited_holds, input_holds}
 use Rattle.history.proofs.SentAnswers.{is_silent, silent_empty}
-use Rattle.history.proofs.Performing.{Performed, answered, dropped, begins, changes, awaited_of, awaiting_is, settled_sent, settled_own}
+use Rattle.history.proofs.Performing.{Performed, answered, dropped, begins, changes, awaited_by, awaited_of, awaiting_is, settled_sent, settled_own}
 use Rattle.history.proofs.Verdicts.{resets, reset_test}
 
 -- ---- the definitions, by whether a line ended
@@ -53,12 +54,9 @@ module _ (p : Profile) (w : Waits) (m : Marked) (l : List ℕ) where
   holds_joined e = rw (e, byte_holds)
 
 -- where no command is pending, none is awaited
-none_awaited : (q : Pending) → is_pending q ≡ false → awaited_of q ≡ nothing
-none_awaited Nothing e = refl
-none_awaited Weigh e = absurd (true≢false e)
-none_awaited Zero e = absurd (true≢false e)
-none_awaited Tare e = absurd (true≢false e)
-none_awaited Change e = absurd (true≢false e)
+none_awaited : (q : Option Pending) → is_pending q ≡ false → awaited_of q ≡ nothing
+none_awaited None e = refl
+none_awaited (Some q) e = absurd (true≢false e)
 
 nothing_stays : (b : Bool) → cond b nothing nothing ≡ nothing
 nothing_stays true = refl
@@ -98,8 +96,8 @@ module _ (p : Profile) (s : State) (w : Waits) (m : Marked) (x : Reaction) (old 
       → is_silent x.answer ≡ true
       → is_pending s.waiting.pending ≡ false
       → may_wait (finished_line w.line) ≡ true
-      → awaited_of pending ≡ command (identification_in (map byte_in (finished_line w.line)))
-      → x.state.waiting ≡ record { pending = pending; unstable = 0 }
+      → awaited_by pending ≡ command (identification_in (map byte_in (finished_line w.line)))
+      → x.state.waiting ≡ record { pending = Some pending; unstable = 0 }
       → Reacts p w (byte_is m) x
   begins_reacts pending noreset silent free may waits now =
       let none : is_empty (answer_bytes p x.answer) ≡ true = silent_empty p x.answer ∙ silent in
@@ -172,9 +170,8 @@ joined_reacts p s w m l old allowed on keeps =
 
 -- the W-th unstable sample: S I, T I or Z I, as the command is that waits; S I for SR
 timeout_answer : (p : Profile) (n : ℕ) (pending : Pending) → suc n ≡ p.timeout
-    → awaited_holds p n (awaited_of pending) false (answer_bytes p (answers.Plain (head_of (place_of_pending pending) I))) ≡ true
+    → awaited_holds p n (awaited_by pending) false (answer_bytes p (answers.Plain (head_of (place_of_pending pending) I))) ≡ true
 unfolding answer_bytes line_of head_text
-timeout_answer p n Nothing e = refl
 timeout_answer p n Weigh e = rw (eq-eqb (suc n) p.timeout e)
 timeout_answer p n Zero e = rw (eq-eqb (suc n) p.timeout e)
 timeout_answer p n Tare e = rw (eq-eqb (suc n) p.timeout e)
@@ -182,9 +179,8 @@ timeout_answer p n Change e = rw (eq-eqb (suc n) p.timeout e)
 
 -- one before it: no answer
 counted_answer : (p : Profile) (n : ℕ) (pending : Pending) → (suc n ≡ p.timeout → ⊥)
-    → awaited_holds p n (awaited_of pending) false (answer_bytes p answers.Nothing) ≡ true
+    → awaited_holds p n (awaited_by pending) false (answer_bytes p answers.Nothing) ≡ true
 unfolding answer_bytes line_of
-counted_answer p n Nothing e = refl
 counted_answer p n Weigh e = rw (ne_eqb (suc n) p.timeout e)
 counted_answer p n Zero e = rw (ne_eqb (suc n) p.timeout e)
 counted_answer p n Tare e = rw (ne_eqb (suc n) p.timeout e)
@@ -210,19 +206,25 @@ module _ (p : Profile) (s : State) (w : Waits) (z : Load) (stable : Bool) (old :
             };
       }
 
-  module _ (waits : is_pending s.waiting.pending ≡ true) where
+  module _ (q : Pending) (waits : s.waiting.pending ≡ Some q) where
+    pending : is_pending s.waiting.pending ≡ true
+    pending = ap is_pending waits
+
+    awaited : w.waiting ≡ awaited_by q
+    awaited = old.waiting ∙ ap awaited_of waits
+
     before : is_awaiting w.waiting ≡ true
-    before = ap is_awaiting old.waiting ∙ awaiting_is s.waiting.pending ∙ waits
+    before = ap is_awaiting old.waiting ∙ awaiting_is s.waiting.pending ∙ pending
 
     -- a stable sample is answered, and the wait is over
     stable_reacts : (x : Reaction) → stable ≡ true → is_silent x.answer ≡ false
-        → awaited_holds p w.unstable (awaited_of s.waiting.pending) true (answer_bytes p x.answer) ≡ true
+        → awaited_holds p w.unstable (awaited_by q) true (answer_bytes p x.answer) ≡ true
         → x.state.waiting ≡ not_waiting → x.state.line ≡ s.line
         → state_allowed p x.state ≡ true → Reacts p w (sample_is z.0 stable) x
     stable_reacts x e sent own none line allowed =
         let full : is_empty (answer_bytes p x.answer) ≡ false = silent_empty p x.answer ∙ sent in
         record {
-          holds = rw (old.waiting, e) own;
+          holds = rw (awaited, e) own;
           next =
               record {
                 allowed = allowed;
@@ -235,14 +237,14 @@ module _ (p : Profile) (s : State) (w : Waits) (z : Load) (stable : Bool) (old :
     -- the W-th unstable one ends it with I
     last_reacts : (t : State) → stable ≡ false → t.line ≡ s.line → p.timeout ≤ s.waiting.unstable + 1
         → state_allowed p (with_waiting t not_waiting) ≡ true
-        → Reacts p w (sample_is z.0 stable) (reaction (with_waiting t not_waiting) (answers.Plain (head_of (place_of_pending s.waiting.pending) I)))
+        → Reacts p w (sample_is z.0 stable) (reaction (with_waiting t not_waiting) (answers.Plain (head_of (place_of_pending q) I)))
     last_reacts t e line most allowed =
-        let count : suc w.unstable ≡ p.timeout = omega (arith, old.counted waits, (allowed_state p s old.allowed).waiting waits) in
-        let full : is_empty (answer_bytes p (answers.Plain (head_of (place_of_pending s.waiting.pending) I))) ≡ false =
-        timeout_full p (place_of_pending s.waiting.pending)
+        let count : suc w.unstable ≡ p.timeout = omega (arith, old.counted pending, (allowed_state p s old.allowed).waiting pending) in
+        let full : is_empty (answer_bytes p (answers.Plain (head_of (place_of_pending q) I))) ≡ false =
+        timeout_full p (place_of_pending q)
         in
         record {
-          holds = rw (old.waiting, e) (timeout_answer p w.unstable s.waiting.pending count);
+          holds = rw (awaited, e) (timeout_answer p w.unstable q count);
           next =
               record {
                 allowed = allowed;
@@ -254,20 +256,20 @@ module _ (p : Profile) (s : State) (w : Waits) (z : Load) (stable : Bool) (old :
 
     -- one before it is counted
     counted_reacts : (t : State) → stable ≡ false → t.line ≡ s.line → s.waiting.unstable + 1 < p.timeout
-        → state_allowed p (with_waiting t (record { pending = s.waiting.pending; unstable = s.waiting.unstable + 1 })) ≡ true
+        → state_allowed p (with_waiting t (record { pending = Some q; unstable = s.waiting.unstable + 1 })) ≡ true
         → Reacts p w (sample_is z.0 stable)
-        (reaction (with_waiting t (record { pending = s.waiting.pending; unstable = s.waiting.unstable + 1 })) answers.Nothing)
+        (reaction (with_waiting t (record { pending = Some q; unstable = s.waiting.unstable + 1 })) answers.Nothing)
     unfolding answer_bytes line_of
     counted_reacts t e line less allowed =
-        let same : w.unstable ≡ s.waiting.unstable = old.counted waits in
+        let same : w.unstable ≡ s.waiting.unstable = old.counted pending in
         let not_last : suc w.unstable ≡ p.timeout → ⊥ = λ f. omega arith in
         record {
-          holds = rw (old.waiting, e) (counted_answer p w.unstable s.waiting.pending not_last);
+          holds = rw (awaited, e) (counted_answer p w.unstable q not_last);
           next =
               record {
                 allowed = allowed;
                 line = rw line old.line;
-                waiting = old.waiting;
+                waiting = awaited;
                 counted = λ f. rw (before, e) (omega arith);
               };
         }
@@ -281,14 +283,14 @@ unfolding settled_reaction_by
 sample_reacts p s w z stable old =
     let t : State = sampled_state s z stable in
     sample_cases (λ x. state_allowed p x.state ≡ true → Reacts p w (sample_is z.0 stable) x) p s z stable
-    (λ waits e.
-    stable_reacts p s w z stable old waits (settled_reaction p (with_waiting t not_waiting) s.waiting.pending) e
-    (settled_sent p s.waiting.pending t.weighing waits)
-    (settled_own p w.unstable s.waiting.pending t.weighing e)
+    (λ q waits e.
+    stable_reacts p s w z stable old q waits (settled_reaction p (with_waiting t not_waiting) q) e
+    (settled_sent p q t.weighing)
+    (settled_own p w.unstable q t.weighing e)
     refl
     refl)
-    (λ waits e most. last_reacts p s w z stable old waits t e refl most)
-    (λ waits e less. counted_reacts p s w z stable old waits t e refl less)
+    (λ q waits e most. last_reacts p s w z stable old q waits t e refl most)
+    (λ q waits e less. counted_reacts p s w z stable old q waits t e refl less)
     (λ free e. free_reacts p s w z stable old (reaction t answers.Nothing) free refl refl)
     (λ free e. free_reacts p s w z stable old (reaction t (weighed p t.weighing)) free refl refl)
     (λ free e.

@@ -14,13 +14,13 @@ use Rattle.answer.specs.Lines.{line_end, head_text, weight_text, line_of, head_o
 use Rattle.model.specs.declared.profile.Profile.{Profile}
 use Rattle.weighing.specs.Weighings.{number_in}
 use Rattle.device.specs.Calls.{answer_bytes}
-use Rattle.text.specs.declared.reading.FieldRead.TheVariants.{Number as ReadNumber}
+use Rattle.std.specs.Prelude.{Some}
 use Rattle.text.specs.Ascii.{ascii, same_text}
 use Rattle.text.specs.UnitTexts.{unit_text}
 use Rattle.weight.specs.declared.rounding.Resolution.{Resolution}
 use Rattle.weight.specs.Places.{fits_field}
 use Rattle.text.specs.Field.{field_of}
-use Rattle.text.specs.Reading.{read_field}
+use Rattle.text.specs.Reading.{field_number, read_field}
 use Rattle.weight.specs.Rounding.{allowed_resolution, in_range, places_of}
 use Rattle.weight.specs.Printing.{printable, printed_number}
 use Rattle.weight.proofs.Allowed.{both_right}
@@ -44,7 +44,7 @@ module _ (f g u e : List ℕ) (long : length f ≡ 10) where
 -- ---- the weight after the head
 
 module _ (r : Resolution) (w : ℤ) (fits : printable r w ≡ true) where
-  pub places_printed : (printed_number r w).places.0 ≡ places_of r w
+  pub places_printed : (number_in r w).places.0 ≡ places_of r w
   unfolding printed_number
   places_printed = rw fits
 
@@ -70,7 +70,7 @@ module _ (r : Resolution) (w : ℤ) (fits : printable r w ≡ true) where
       (field_length r.coarse r.decimals (places_of r w) field_fits))
 
   -- the number is read back
-  number_back : read_field (take 10 (weight_text (number_in r w) ++ line_end)) ≡ ReadNumber r.decimals (record { 0 = places_of r w }) r.coarse
+  number_back : read_field (take 10 (weight_text (number_in r w) ++ line_end)) ≡ Some (field_number r.decimals (places_of r w) r.coarse)
   number_back = rw ten_printed (read_back r.coarse r.decimals (places_of r w) field_fits)
 
   -- and the unit and CR LF follow it
@@ -83,7 +83,7 @@ module _ (r : Resolution) (w : ℤ) (fits : printable r w ≡ true) where
 pub record Shows (r : Resolution) (w : ℤ) (l : List ℕ) : Type 0 where
   pub whole : is_whole r.unit l ≡ true
   pub ten : ten_of l ≡ field_of r.coarse r.decimals (places_of r w)
-  pub number : read_field (ten_of l) ≡ ReadNumber r.decimals (record { 0 = places_of r w }) r.coarse
+  pub number : read_field (ten_of l) ≡ Some (field_number r.decimals (places_of r w) r.coarse)
 
 module _ (p : Profile) (r : Resolution) (w : ℤ) (fits : printable r w ≡ true) where
   pub weighed_shows : (stable : Bool) → Shows r w (answer_bytes p (Weight (head_of place_s (cond stable S D)) (number_in r w)))

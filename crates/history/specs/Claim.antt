@@ -8,19 +8,19 @@ use Rattle.model.specs.declared.state.State.{State}
 use Rattle.weight.specs.declared.loads.Load.{Load}
 use Rattle.device.specs.declared.bytes.BytesTaken.{BytesTaken}
 use Rattle.device.specs.declared.call.Called.{Called}
-use Rattle.model.specs.Refusals.{number_of_refusal}
-use Rattle.device.specs.Buffers.{joined, taken_singly, BytesCalled}
-use Rattle.device.specs.Calls.{PowerOnCalled, ByteCalled, SampleCalled}
+use Rattle.model.specs.Refusals.{number_of_outcome}
+use Rattle.device.specs.Buffers.{counts_of, joined, taken_singly, BytesCalled}
+use Rattle.device.specs.Calls.{count_of, PowerOnCalled, ByteCalled, SampleCalled}
 use Rattle.history.specs.Tally.{Event, byte_is, sample_is, start_tally, accepts}
 
 -- what the tally is fed of a byte call and of a sample call: the answer is the first n bytes of the buffer
 abbrev pub byte_event : ℕ → Bool → Called → List ℕ → Event
 byte_event b bad r buffer =
-    record { input = byte_is (record { byte = b; faulty = bad }); refusal = number_of_refusal r.refusal; answer = take r.count buffer }
+    record { input = byte_is (record { byte = b; faulty = bad }); refusal = number_of_outcome r.outcome; answer = take (count_of r.outcome) buffer }
 
 abbrev pub sample_event : Load → Bool → Called → List ℕ → Event
 sample_event z stable r buffer =
-    record { input = sample_is z.0 stable; refusal = number_of_refusal r.refusal; answer = take r.count buffer }
+    record { input = sample_is z.0 stable; refusal = number_of_outcome r.outcome; answer = take (count_of r.outcome) buffer }
 
 -- each byte that was taken with its own answer; those that were not are no events
 unfoldable pub taken_events : List Marked → List (List ℕ) → List Event
@@ -37,8 +37,8 @@ abbrev pub StandsForBytes : Type 0
 StandsForBytes =
     (p : Profile) (s : State) (bytes marks room : List ℕ) (r : BytesTaken) (buffer : List ℕ)
     → BytesCalled p s bytes marks room r buffer
-    → (map (λ (e : Event). e.input) (bytes_events p s bytes marks room) ≡ map byte_is (take r.taken (marked_bytes bytes marks)))
-    × (joined (map (λ (e : Event). e.answer) (bytes_events p s bytes marks room)) ≡ take r.count buffer)
+    → (map (λ (e : Event). e.input) (bytes_events p s bytes marks room) ≡ map byte_is (take (counts_of r.outcome).taken (marked_bytes bytes marks)))
+    × (joined (map (λ (e : Event). e.answer) (bytes_events p s bytes marks room)) ≡ take (counts_of r.outcome).count buffer)
 
 -- A list of calls from a state, as the tally is fed it: each with that profile, a lent buffer of any length and content, and the
 -- state that the call before it returned. What is known of a call is what its contract ensures, and nothing else.
@@ -57,10 +57,10 @@ abbrev pub OverCalls : (Profile → List ℕ → List Event → Type 0) → Type
 OverCalls Holds =
     (p : Profile) (earlier : State) (room : List ℕ) (r : Called) (buffer : List ℕ)
     → PowerOnCalled p earlier room r buffer
-    → number_of_refusal r.refusal ≡ 0
+    → number_of_outcome r.outcome ≡ 0
     → (es : List Event) (s : State)
     → Calls p r.state es s
-    → Holds p (take r.count buffer) es
+    → Holds p (take (count_of r.outcome) buffer) es
 
 -- Demand 3: the tally accepts
 abbrev pub Demand3 : Type 0

@@ -2,14 +2,14 @@
 -- the host's reader, and the value that the reader hands back for a weight is as near to the exact weight as demand 3 asks of the
 -- sent one.
 -- Assumes nothing.
-use Rattle.std.specs.Prelude.{ℕ, ◌*◌, ◌≡◌, Bool, true, false, not, ◌&&◌, ◌||◌, List, [], ◌∷◌, reverse, leb, eqb, nat_abs, ◌-ℤ◌}
+use Rattle.std.specs.Prelude.{ℕ, ◌*◌, ◌≡◌, Bool, true, false, not, ◌&&◌, ◌||◌, List, [], ◌∷◌, reverse, leb, eqb, nat_abs, ◌-ℤ◌, Result, Ok, Err}
 use Rattle.answer.specs.declared.answer.Answer.{Answer}
 use Rattle.answer.specs.declared.answer.Answer.TheVariants.{Nothing, Plain, Weight, ErrorLine, Text, Listed, CommandList, Versions, HostUnit}
 use Rattle.model.specs.declared.profile.Profile.{Profile}
 use Rattle.history.specs.Claim.{OverCalls}
 use Rattle.history.specs.Tally.{Event, Tally, start_tally, in_force_at, in_same_range, number_femtograms, exact_weight, allowance, tallied, after_event}
-use Rattle.host.specs.declared.reader.Read.{Read}
-use Rattle.host.specs.declared.reader.Read.TheVariants as reads
+use Rattle.host.specs.declared.reader.ReadLine.{ReadLine}
+use Rattle.host.specs.declared.refusal.Refusal.{Refusal}
 use Rattle.host.specs.Reads.{read_line}
 use Rattle.text.specs.Ascii.{same_text}
 use Rattle.weight.specs.declared.rounding.Resolution.{Resolution}
@@ -53,9 +53,9 @@ value_holds r t l CommandList = true
 value_holds r t l Versions = true
 value_holds r t l (HostUnit u) = same_text (unit_text u) (unit_text r.unit)
 
-abbrev pub piece_holds : Profile → Tally → List ℕ → Read → Bool
-piece_holds p t l (reads.Line a place) = value_holds (in_force_at p t l) t l a
-piece_holds p t l reads.Refused = false
+abbrev pub piece_holds : Profile → Tally → List ℕ → Result ReadLine Refusal → Bool
+piece_holds p t l (Ok read) = value_holds (in_force_at p t l) t l read.answer
+piece_holds p t l (Err refusal) = false
 
 unfoldable pub pieces_hold : Profile → Tally → List (List ℕ) → Bool
 pieces_hold p t [] = true

@@ -1,6 +1,6 @@
 -- Document 01, "The tally of demand 3", and document 02, No. 3, No. 5 and No. 7. It reads calls and answers alone, never the module's state.
 -- Assumes nothing.
-use Rattle.std.specs.Prelude.{ℕ, ◌+◌, ◌-◌, ◌*◌, ◌^◌, Bool, true, false, cond, not, ◌&&◌, ◌||◌, List, [], ◌∷◌, ◌++◌, map, leb, eqb, ℤ, pos, nat_abs, ◌-ℤ◌, ◌*ℤ◌, length, take, drop}
+use Rattle.std.specs.Prelude.{ℕ, ◌+◌, ◌-◌, ◌*◌, ◌^◌, Bool, true, false, cond, not, ◌&&◌, ◌||◌, List, [], ◌∷◌, ◌++◌, map, Option, Some, None, leb, eqb, ℤ, pos, nat_abs, ◌-ℤ◌, ◌*ℤ◌, length, take, drop}
 use Rattle.model.specs.declared.profile.Profile.{Profile}
 use Rattle.model.specs.Profiles.{resolution_of}
 use Rattle.line.specs.Judging.{unit_in, is_coded, unit_of}
@@ -17,8 +17,7 @@ use Rattle.weight.specs.Rounding.{half_up, step_femtograms, exact_femtograms}
 use Rattle.text.specs.Reading.{read_field, is_decimal, decimals_in, value_in}
 use Rattle.text.specs.Typed.{preset_resolution}
 use Rattle.weight.specs.Presets.{preset_femtograms}
-use Rattle.text.specs.declared.reading.FieldRead.{FieldRead}
-use Rattle.text.specs.declared.reading.FieldRead.TheVariants.{Number, NoNumber}
+use Rattle.text.specs.declared.reading.FieldNumber.{FieldNumber}
 
 -- ---- what it is fed: each call's byte or sample with its mark, its refusal number and its answer
 
@@ -240,10 +239,10 @@ abbrev pub in_same_range : Bool → Bool → Bool
 in_same_range coarse c = cond coarse c (not c)
 
 -- number and exact weight differ by at most that
-abbrev pub compares : Resolution → Tally → List ℕ → FieldRead → Bool
-compares r t l (Number d n c) =
-    in_same_range r.coarse c && leb (2 * nat_abs (number_femtograms r.unit d n.0 -ℤ exact_weight t l)) (allowance r t)
-compares r t l NoNumber = false
+abbrev pub compares : Resolution → Tally → List ℕ → Option FieldNumber → Bool
+compares r t l (Some n) =
+    in_same_range r.coarse n.coarse && leb (2 * nat_abs (number_femtograms r.unit n.decimals n.places.0 -ℤ exact_weight t l)) (allowance r t)
+compares r t l None = false
 
 -- an answer that begins like a weight and is none is refused
 unfoldable pub weight_holds : Resolution → Tally → List ℕ → Bool

@@ -9,7 +9,7 @@ use Rattle.device.specs.Buffers.{lengths_allowed, BytesCalled}
 use Rattle.device.specs.Calls.{PowerOnCalled}
 use Rattle.model.specs.declared.profile.Profile.{Profile}
 use Rattle.model.specs.declared.state.State.{State}
-use Rattle.model.specs.Refusals.{number_of_refusal}
+use Rattle.model.specs.Refusals.{number_of_outcome}
 use Rattle.line.specs.Unbounded.{Marked, ends_unbounded, finished_line, byte_in, any_faulty}
 use Rattle.text.specs.Ascii.{ascii, same_text}
 use Rattle.text.specs.Searching.{before_space}
@@ -131,9 +131,9 @@ abbrev pub BuffersTaken : Type 0
 BuffersTaken =
     (p : Profile) (earlier : State) (room : List ℕ) (r : Called) (buffer : List ℕ)
     → PowerOnCalled p earlier room r buffer
-    → number_of_refusal r.refusal ≡ 0
+    → number_of_outcome r.outcome ≡ 0
     → (es : List Event) (s : State)
     → Calls p r.state es s
     → (bytes marks lent : List ℕ) (t : BytesTaken) (after : List ℕ)
     → BytesCalled p s bytes marks lent t after
-    → number_of_refusal t.refusal ≡ cond (lengths_allowed bytes marks) 0 5
+    → number_of_outcome t.outcome ≡ cond (lengths_allowed bytes marks) 0 5

@@ -31,10 +31,9 @@ use Rattle.text.specs.Searching.{before_space, after_space, has_space}
 use Rattle.text.specs.Ascii.{ascii, same_text}
 use Rattle.text.specs.Field.{field_of}
 use Rattle.text.specs.UnitTexts.{unit_text, unit_code, first_marked, unit_named, unit_coded}
-use Rattle.text.specs.declared.reading.FieldRead.{FieldRead}
-use Rattle.text.specs.declared.reading.FieldRead.TheVariants as fields
-use Rattle.text.specs.declared.unit_texts.UnitRead.{UnitRead}
-use Rattle.text.specs.declared.unit_texts.UnitRead.TheVariants.{Named, Unknown}
+use Rattle.std.specs.Prelude.{Option, Some, None}
+use Rattle.text.specs.declared.reading.FieldNumber.{FieldNumber}
+use Rattle.text.specs.Reading.{field_number}
 use Rattle.weight.specs.declared.units.WeightUnit.{WeightUnit}
 use Rattle.weight.specs.Units.{all_units}
 use Rattle.weight.proofs.Allowed.{both_left}
@@ -53,8 +52,8 @@ record PlainOf (l : List ℕ) (h : Head) : Type 0 where
 record WeightOf (l : List ℕ) (h : Head) (n : Number) : Type 0 where
   spaced : has_space l ≡ true
   head : h ≡ head_guess l
-  field : field_guess l ≡ fields.Number n.decimals n.places n.coarse
-  unit : unit_guess l ≡ Named n.unit
+  field : field_guess l ≡ Some (field_number n.decimals n.places.0 n.coarse)
+  unit : unit_guess l ≡ Some n.unit
 
 record TextOf (l : List ℕ) (c : ℕ) : Type 0 where
   spaced : has_space l ≡ true
@@ -69,7 +68,7 @@ record ListedOf (l : List ℕ) (last : Bool) (c : ℕ) : Type 0 where
 record HostUnitOf (l : List ℕ) (u : WeightUnit) : Type 0 where
   spaced : has_space l ≡ true
   place : place_of (before_space l) ≡ place_m21
-  code : code_guess l ≡ Named u
+  code : code_guess l ≡ Some u
 
 abbrev error_byte : Error → ℕ
 error_byte Syntax = 83
@@ -95,14 +94,14 @@ module _ (l : List ℕ) where
   error_of false false true e f g = eqb-true (get_or l 1 0) 76 g
   error_of false false false e f g = tt
 
-  weight_of : (f : FieldRead) (u : UnitRead) → has_space l ≡ true → field_guess l ≡ f → unit_guess l ≡ u → Of l (weight_guess (head_guess l) f u)
-  weight_of (fields.Number d n c) (Named u) s e g = record { spaced = s; head = refl; field = e; unit = g }
-  weight_of (fields.Number d n c) Unknown s e g = tt
-  weight_of fields.NoNumber u s e g = tt
+  weight_of : (f : Option FieldNumber) (u : Option WeightUnit) → has_space l ≡ true → field_guess l ≡ f → unit_guess l ≡ u → Of l (weight_guess (head_guess l) f u)
+  weight_of (Some f) (Some u) s e g = record { spaced = s; head = refl; field = e; unit = g }
+  weight_of (Some f) None s e g = tt
+  weight_of None u s e g = tt
 
-  host_unit_of : (u : UnitRead) → has_space l ≡ true → place_of (before_space l) ≡ place_m21 → code_guess l ≡ u → Of l (host_unit_guess u)
-  host_unit_of (Named u) s p e = record { spaced = s; place = p; code = e }
-  host_unit_of Unknown s p e = tt
+  host_unit_of : (u : Option WeightUnit) → has_space l ≡ true → place_of (before_space l) ≡ place_m21 → code_guess l ≡ u → Of l (host_unit_guess u)
+  host_unit_of (Some u) s p e = record { spaced = s; place = p; code = e }
+  host_unit_of None s p e = tt
 
   named_of : (p z o i m : Bool) → has_space l ≡ true → eqb (length l) (plain_length l) ≡ p → eqb (place_of (before_space l)) 0 ≡ z
       → eqb (place_of (before_space l)) place_m21 ≡ m
@@ -150,17 +149,17 @@ own_status b s e other =
     by false false false false false false false e1 e2 e3 e4 e5 e6 e7 n = absurd (n refl)
 
 -- no text is no unit, no code and no name
-marked_some : (coded : Bool) (k : ℕ) (v : List ℕ) (u : WeightUnit) → first_marked coded (take k v) all_units ≡ Named u → 1 ≤ k
+marked_some : (coded : Bool) (k : ℕ) (v : List ℕ) (u : WeightUnit) → first_marked coded (take k v) all_units ≡ Some u → 1 ≤ k
 unfolding first_marked
 marked_some true zero v u e = let z : ◌≡◌ {A = ℕ} 0 1 = cc in absurd (omega arith)
 marked_some false zero v u e = let z : ◌≡◌ {A = ℕ} 0 1 = cc in absurd (omega arith)
 marked_some coded (suc k) v u e = omega arith
 
-unit_some : (k : ℕ) (v : List ℕ) (u : WeightUnit) → unit_named (take k v) ≡ Named u → 1 ≤ k
+unit_some : (k : ℕ) (v : List ℕ) (u : WeightUnit) → unit_named (take k v) ≡ Some u → 1 ≤ k
 unfolding unit_named
 unit_some = marked_some false
 
-code_some : (k : ℕ) (v : List ℕ) (u : WeightUnit) → unit_coded (take k v) ≡ Named u → 1 ≤ k
+code_some : (k : ℕ) (v : List ℕ) (u : WeightUnit) → unit_coded (take k v) ≡ Some u → 1 ≤ k
 unfolding unit_coded
 code_some = marked_some true
 
@@ -209,7 +208,7 @@ module _ (l : List ℕ) (spaced : has_space l ≡ true) where
         ∙ plain_same (before_space l) (after_space l) (status_byte h.status) (omega (arith, cut_length)) byte
         ∙ sym (ap₂ same_text (plain_line h t ∙ ap (λ (v : List ℕ). v ++ (32 ∷ status_byte h.status ∷ line_end)) name) cut)
 
-    weight_framed : (n : Number) (t : List ℕ) → field_guess l ≡ fields.Number n.decimals n.places n.coarse → unit_guess l ≡ Named n.unit
+    weight_framed : (n : Number) (t : List ℕ) → field_guess l ≡ Some (field_number n.decimals n.places.0 n.coarse) → unit_guess l ≡ Some n.unit
         → weight_form h.identification h.status ≡ true
         → weight_frame (length (before_space l)) l && is_ended l ≡ same_text (line_of (Weight h n) t) l
     weight_framed n t field unit form =
@@ -259,7 +258,7 @@ module _ (l : List ℕ) (spaced : has_space l ≡ true) where
       ∙ listed_same r (name_of c) last c name (omega arith) (ap (λ (v : List ℕ). eqb (get_or v 3 0) 65) (sym line) ∙ mark)
       ∙ sym (ap₂ same_text (listed_line_lem last c t) line)
 
-  host_unit_framed : (u : WeightUnit) (t : List ℕ) → place_of (before_space l) ≡ place_m21 → code_guess l ≡ Named u
+  host_unit_framed : (u : WeightUnit) (t : List ℕ) → place_of (before_space l) ≡ place_m21 → code_guess l ≡ Some u
       → host_unit_frame l && is_ended l ≡ same_text (line_of (HostUnit u) t) l
   host_unit_framed u t place found =
       let w = before_space l in

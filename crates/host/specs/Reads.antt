@@ -1,7 +1,7 @@
 -- Reading a line: the one answer that it could be is taken where it can be formed and its line is the line read; any other line is
 -- refused. What is right is `can_form` and `line_of` alone; the laws say that no line of theirs is missed.
 -- Assumes nothing.
-use Rattle.std.specs.Prelude.{ℕ, ◌+◌, ◌-◌, Bool, cond, ◌&&◌, List, eqb, length, get_or, take, drop}
+use Rattle.std.specs.Prelude.{ℕ, ◌+◌, ◌-◌, Bool, cond, ◌&&◌, Option, Some, None, Result, Ok, Err, List, eqb, length, get_or, take, drop}
 use Rattle.answer.specs.Commands.{place_of, is_i0, is_i1, is_m21, has_text}
 use Rattle.answer.specs.Lines.{line_of}
 use Rattle.answer.specs.declared.answer.Answer.{Answer}
@@ -11,17 +11,16 @@ use Rattle.answer.specs.declared.answer.Head.{Head}
 use Rattle.answer.specs.declared.answer.Status.{Status}
 use Rattle.answer.specs.declared.answer.Status.TheVariants.{A, B, S, D, I, L, Over, Under}
 use Rattle.forms.specs.Forms.{can_form}
-use Rattle.host.specs.declared.reader.Read.{Read}
-use Rattle.host.specs.declared.reader.Read.TheVariants as reads
+use Rattle.host.specs.declared.reader.ReadLine.{ReadLine}
 use Rattle.host.specs.declared.reader.ReadText.{ReadText}
+use Rattle.host.specs.declared.refusal.Refusal.{Refusal}
+use Rattle.host.specs.declared.refusal.Refusal.TheVariants.{Form}
 use Rattle.text.specs.Searching.{before_space, has_space}
 use Rattle.text.specs.Ascii.{same_text}
 use Rattle.text.specs.Reading.{read_field}
 use Rattle.text.specs.UnitTexts.{unit_named, unit_coded}
-use Rattle.text.specs.declared.reading.FieldRead.{FieldRead}
-use Rattle.text.specs.declared.reading.FieldRead.TheVariants.{Number, NoNumber}
-use Rattle.text.specs.declared.unit_texts.UnitRead.{UnitRead}
-use Rattle.text.specs.declared.unit_texts.UnitRead.TheVariants.{Named, Unknown}
+use Rattle.text.specs.declared.reading.FieldNumber.{FieldNumber}
+use Rattle.weight.specs.declared.units.WeightUnit.{WeightUnit}
 
 -- ---- the answer that a line could be
 
@@ -40,10 +39,10 @@ status_guess b =
     (cond (eqb b 43) Over
     (cond (eqb b 45) Under B))))))
 
-abbrev pub weight_guess : Head → FieldRead → UnitRead → Answer
-weight_guess h (Number d n c) (Named u) = Weight h (record { decimals = d; places = n; unit = u; coarse = c })
-weight_guess h (Number d n c) Unknown = Nothing
-weight_guess h NoNumber u = Nothing
+abbrev pub weight_guess : Head → Option FieldNumber → Option WeightUnit → Answer
+weight_guess h (Some f) (Some u) = Weight h (record { decimals = f.decimals; places = f.places; unit = u; coarse = f.coarse })
+weight_guess h (Some f) None = Nothing
+weight_guess h None u = Nothing
 
 -- identification, space, status, CR LF
 abbrev pub plain_length : List ℕ → ℕ
@@ -53,10 +52,10 @@ abbrev pub head_guess : List ℕ → Head
 head_guess l = record { identification = place_of (before_space l); status = status_guess (get_or l (length (before_space l) + 1) 0) }
 
 -- the ten characters and the unit of a weight answer
-abbrev pub field_guess : List ℕ → FieldRead
+abbrev pub field_guess : List ℕ → Option FieldNumber
 field_guess l = read_field (take 10 (drop (length (before_space l) + 3) l))
 
-abbrev pub unit_guess : List ℕ → UnitRead
+abbrev pub unit_guess : List ℕ → Option WeightUnit
 unit_guess l = unit_named (take (length l - (length (before_space l) + 16)) (drop (length (before_space l) + 14) l))
 
 -- a line of I0, whose name stands from the ninth byte up to the last quote
@@ -64,12 +63,12 @@ abbrev pub listed_guess : List ℕ → Answer
 listed_guess l = Listed (eqb (get_or l 3 0) 65) (place_of (take (length l - 11) (drop 8 l)))
 
 -- the code of M21's answer stands from the ninth byte up to CR LF
-abbrev pub code_guess : List ℕ → UnitRead
+abbrev pub code_guess : List ℕ → Option WeightUnit
 code_guess l = unit_coded (take (length l - 10) (drop 8 l))
 
-abbrev pub host_unit_guess : UnitRead → Answer
-host_unit_guess (Named u) = HostUnit u
-host_unit_guess Unknown = Nothing
+abbrev pub host_unit_guess : Option WeightUnit → Answer
+host_unit_guess (Some u) = HostUnit u
+host_unit_guess None = Nothing
 
 -- a line with a space, by its name's place; I0, I1, the texts and M21 answer by more than a status
 abbrev pub named_guess : ℕ → List ℕ → Answer
@@ -108,14 +107,13 @@ confirms a t l = can_form a t && same_text (line_of a t) l
 abbrev pub is_answer : List ℕ → Bool
 is_answer l = confirms (guessed l) (text_at (text_place (guessed l) l) l) l
 
-unfoldable pub read_line : List ℕ → Read
-read_line l = cond (is_answer l) (reads.Line (guessed l) (text_place (guessed l) l)) reads.Refused
+abbrev pub read_as : Answer → ReadText → ReadLine
+read_as a t = record { answer = a; text = t }
+
+unfoldable pub read_line : List ℕ → Result ReadLine Refusal
+read_line l = cond (is_answer l) (Ok (read_as (guessed l) (text_place (guessed l) l))) (Err Form)
 
 -- ---- the paper's refusal number
-
-abbrev pub number_of_read : Read → ℕ
-number_of_read (reads.Line a t) = 0
-number_of_read reads.Refused = 4
 
 -- 4: the line is no answer of the forms
 unfoldable pub number_of_line : List ℕ → ℕ

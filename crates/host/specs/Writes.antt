@@ -1,19 +1,17 @@
 -- Writing the line of an answer: 4 where it cannot be formed, 3 where the buffer is shorter than the line.
 -- Assumes nothing.
-use Rattle.std.specs.Prelude.{ℕ, ◌≡◌, Bool, true, false, List, length}
+use Rattle.std.specs.Prelude.{ℕ, ◌≡◌, Bool, true, false, Result, Ok, Err, List, length}
 use Rattle.answer.specs.Lines.{line_of}
 use Rattle.emit.specs.Rooms.{fits_room, laid_in}
 use Rattle.answer.specs.declared.answer.Answer.{Answer}
 use Rattle.forms.specs.Forms.{can_form}
-use Rattle.host.specs.declared.writer.Refusal.{Refusal}
-use Rattle.host.specs.declared.writer.Refusal.TheVariants as refusals
-use Rattle.host.specs.declared.writer.Written.{Written}
+use Rattle.host.specs.declared.refusal.Refusal.{Refusal}
+use Rattle.host.specs.Refusals.{number_of}
 
--- the paper's number; 0 is no refusal
-abbrev pub number_of_refusal : Refusal → ℕ
-number_of_refusal refusals.None = 0
-number_of_refusal refusals.Room = 3
-number_of_refusal refusals.Form = 4
+-- the count of a result: 0 on a refusal
+abbrev pub count_of : Result ℕ Refusal → ℕ
+count_of (Ok n) = n
+count_of (Err e) = 0
 
 -- what the writer gives: the paper's refusal number, n, and its buffer at the end
 pub record Writing : Type 0 where
@@ -38,7 +36,7 @@ writing a t room =
     (refused 4 room)
 
 -- what the writer's contract says: the refusal number, the result and the whole buffer at exit, for every input
-pub record WritesLine (a : Answer) (t room : List ℕ) (r : Written) (buffer : List ℕ) : Type 0 where
-  pub numbered : number_of_refusal r.refusal ≡ (writing a t room).number
-  pub counted : r.count ≡ (writing a t room).count
+pub record WritesLine (a : Answer) (t room : List ℕ) (r : Result ℕ Refusal) (buffer : List ℕ) : Type 0 where
+  pub numbered : number_of r ≡ (writing a t room).number
+  pub counted : count_of r ≡ (writing a t room).count
   pub left : buffer ≡ (writing a t room).buffer

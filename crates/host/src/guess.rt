@@ -1,13 +1,13 @@
 // The one answer that a line could be, by its first bytes and its length.
-ghost use Rattle.std.specs.Prelude.{◌≡◌, ◌≤◌, length};
-ghost use Rattle.forms.specs.Forms.{longest_line};
+ghost use Rattle.std.specs.Prelude.{◌≡◌};
 ghost use Rattle.answer.specs.Commands.{place_of};
 ghost use Rattle.host.specs.Reads.{error_guess, status_guess, weight_guess, head_guess, field_guess, unit_guess, listed_guess, code_guess, host_unit_guess, named_guess, guessed};
 ghost use Rattle.text.specs.Searching.{before_space};
 
-use crate::scan::left;
+use crate::named_line::NamedLine;
 use answer::{Answer, Error, Head, I0, I1, I2, I5, M21, Number, Status, find_command};
-use text::{FieldRead, UnitRead, byte_at, part, read_code, read_field, read_unit};
+use text::{FieldNumber, byte_at, part, read_code, read_field, read_unit};
+use weight::WeightUnit;
 
 // By the second letter.
 fn error_guess(letter: u8) -> Answer
@@ -37,121 +37,86 @@ fn status_guess(byte: u8) -> Status
     }
 }
 
-// `name` is the length of the name, and `command` its place.
-pub fn head_guess(line: &[u8], name: usize, command: u8) -> Head
-    requires name_le_longest_line { name ≤ longest_line }
-    requires name_value { name ≡ length (before_space line.now) }
-    requires command_value { command ≡ place_of (before_space line.now) }
-    ensures { result ≡ head_guess line.now }
+pub fn head_guess(line: NamedLine) -> Head
+    ensures { result ≡ head_guess line.entry.bytes.now }
 {
     Head {
-        identification: command,
-        status: status_guess(byte_at(line, name + 1)),
+        identification: line.command,
+        status: status_guess(byte_at(line.bytes, line.name + 1)),
     }
 }
 
 // The ten characters of a weight.
-fn field_guess(line: &[u8], name: usize) -> FieldRead
-    requires name_le_longest_line { name ≤ longest_line }
-    requires name_value { name ≡ length (before_space line.now) }
-    ensures { result ≡ field_guess line.now }
+fn field_guess(line: NamedLine) -> Option<FieldNumber>
+    ensures { result ≡ field_guess line.entry.bytes.now }
 {
-    read_field(part(line, name + 3, 10))
+    read_field(part(line.bytes, line.name + 3, 10))
 }
 
-fn unit_guess(line: &[u8], name: usize) -> UnitRead
-    requires name_le_longest_line { name ≤ longest_line }
-    requires name_value { name ≡ length (before_space line.now) }
-    ensures { result ≡ unit_guess line.now }
+fn unit_guess(line: NamedLine) -> Option<WeightUnit>
+    ensures { result ≡ unit_guess line.entry.bytes.now }
 {
-    let size = left(line.len(), name + 16);
-    read_unit(part(line, name + 14, size))
+    let size = line.bytes.len().saturating_sub(line.name + 16);
+    read_unit(part(line.bytes, line.name + 14, size))
 }
 
-fn weight_guess(head: Head, field: FieldRead, unit: UnitRead) -> Answer
+// Stays a function of three values: `From` takes one.
+fn weight_guess(head: Head, field: Option<FieldNumber>, unit: Option<WeightUnit>) -> Answer
     ensures { result ≡ weight_guess head field unit }
 {
-    match field {
-        FieldRead::Number(decimals, places, coarse) => match unit {
-            UnitRead::Named(named) => Answer::Weight(
-                head,
-                Number {
-                    decimals,
-                    places,
-                    unit: named,
-                    coarse,
-                },
-            ),
-            UnitRead::Unknown => Answer::Nothing,
+    let (Some(field), Some(unit)) = (field, unit) else {
+        return Answer::Nothing;
+    };
+    Answer::Weight(
+        head,
+        Number {
+            decimals: field.decimals,
+            places: field.places,
+            unit,
+            coarse: field.coarse,
         },
-        FieldRead::NoNumber => Answer::Nothing,
-    }
+    )
 }
 
 // A line of I0: the name stands from the ninth byte up to the last quote.
 fn listed_guess(line: &[u8]) -> Answer
     ensures { result ≡ listed_guess line.now }
 {
-    let size = left(line.len(), 11);
-    let command = find_command(part(line, 8, size));
-    Answer::Listed(byte_at(line, 3) == b'A', command)
+    let size = line.len().saturating_sub(11);
+    Answer::Listed(byte_at(line, 3) == b'A', find_command(part(line, 8, size)))
 }
 
-// The code of M21's answer: from the ninth byte up to CR LF.
-fn code_guess(line: &[u8]) -> UnitRead
-    ensures { result ≡ code_guess line.now }
+// M21's answer: the code stands from the ninth byte up to CR LF.
+fn host_unit_guess(line: &[u8]) -> Answer
+    ensures { result ≡ host_unit_guess (code_guess line.now) }
 {
-    let size = left(line.len(), 10);
-    read_code(part(line, 8, size))
-}
-
-fn host_unit_guess(code: UnitRead) -> Answer
-    ensures { result ≡ host_unit_guess code }
-{
-    match code {
-        UnitRead::Named(unit) => Answer::HostUnit(unit),
-        UnitRead::Unknown => Answer::Nothing,
-    }
+    let size = line.len().saturating_sub(10);
+    read_code(part(line, 8, size)).map_or(Answer::Nothing, Answer::HostUnit)
 }
 
 // A line with a space. I0, I1, the texts and M21 answer by more than a status.
-fn named_guess(line: &[u8], name: usize, command: u8) -> Answer
-    requires name_le_longest_line { name ≤ longest_line }
-    requires name_value { name ≡ length (before_space line.now) }
-    requires command_value { command ≡ place_of (before_space line.now) }
-    ensures { result ≡ named_guess command line.now }
+fn named_guess(line: NamedLine) -> Answer
+    ensures { result ≡ named_guess (place_of (before_space line.entry.bytes.now)) line.entry.bytes.now }
 {
-    if line.len() == name + 4 {
-        return Answer::Plain(head_guess(line, name, command));
+    if line.bytes.len() == line.name + 4 {
+        return Answer::Plain(head_guess(line));
     }
-    if command == I0 {
-        return listed_guess(line);
+    match line.command {
+        I0 => listed_guess(line.bytes),
+        I1 => Answer::Versions,
+        I2..=I5 => Answer::Text(line.command),
+        M21 => host_unit_guess(line.bytes),
+        _ => weight_guess(head_guess(line), field_guess(line), unit_guess(line)),
     }
-    if command == I1 {
-        return Answer::Versions;
-    }
-    if (I2 <= command) & (command <= I5) {
-        return Answer::Text(command);
-    }
-    if command == M21 {
-        return host_unit_guess(code_guess(line));
-    }
-    weight_guess(
-        head_guess(line, name, command),
-        field_guess(line, name),
-        unit_guess(line, name),
-    )
 }
 
-// `name` is how many bytes stand before the first space.
-pub fn guess_answer(line: &[u8], name: usize) -> Answer
-    requires name_le_longest_line { name ≤ longest_line }
-    requires name_value { name ≡ length (before_space line.now) }
-    ensures { result ≡ guessed line.now }
+#[tactic(auto, using(crate::proofs::Branches::spaced_branch, crate::proofs::Branches::unspaced_branch))]
+pub fn guess_answer(line: NamedLine) -> Answer
+    ensures { result ≡ guessed line.entry.bytes.now }
 {
-    if name < line.len() {
-        let command = find_command(&line[..name]);
-        return named_guess(line, name, command);
+    if line.name < line.bytes.len() {
+        named_guess(line)
+    } else {
+        error_guess(byte_at(line.bytes, 1))
     }
-    error_guess(byte_at(line, 1))
 }

@@ -4,9 +4,11 @@
 
 mod frame;
 mod guess;
+mod named_line;
 mod reader;
-mod scan;
+mod refusal;
 mod writer;
 
-pub use reader::{Read, ReadText, read_line};
-pub use writer::{Refusal, Written, write_line};
+pub use reader::{ReadLine, ReadText, read_line};
+pub use refusal::Refusal;
+pub use writer::write_line;

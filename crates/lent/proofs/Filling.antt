@@ -1,16 +1,18 @@
 -- The pattern one byte at a time, as it is filled in and as it is compared.
 -- Assumes nothing.
 use mathlib.Core.Path.{◌≡◌, refl, sym, ap, subst, ◌∙◌}
-use mathlib.Core.Bool.{Bool, true, false, not, ◌&&◌}
+use mathlib.Core.Bool.{Bool, true, false, not, ◌&&◌, ◌||◌}
 use mathlib.Core.List.{List, [], ◌∷◌}
 use Prim.Native.Nat.{ℕ, zero, suc, ◌+◌, ◌≤◌, ◌<◌}
-use native.Mathlib.Nat.{not-suc-le-zero}
+use native.Mathlib.Nat.{not-suc-le-zero, add-zero}
 use native.Mathlib.Numerals.{add-one}
 use native.Mathlib.Omega.{arith}
 use lib.Dec.{eqb, ltb}
 use borrow.Author.Tests.{ltb-true, ltb-false}
-use lib.ListN.{length, get_or, drop, set, take, length-append, length-set, drop_of_length-le, get_or-append}
-use lib.Seq.{drop-cons, get_or_at, take_all, take-suc-set}
+use lib.ListN.{length, get_or, drop, set, take, length-append, length-set, length-drop, get_or-append}
+use lib.Seq.{get_or_at, take_all, take-suc-set}
+use Rattle.std.specs.List.{list_any, enumerate_from}
+use Rattle.std.proofs.lemmas.List.{get_or-drop}
 use Rattle.text.specs.Ascii.{same_text}
 use Rattle.lent.specs.Patterns.{cell_at, pattern, is_spilt}
 
@@ -61,35 +63,35 @@ module _ (seed long : ℕ) (l : List ℕ) (i : ℕ) (p : FilledSoFar seed long l
 
 -- ---- compared from a place on
 
-and_assoc : (a b c : Bool) → a && b && c ≡ a && (b && c)
-and_assoc true b c = refl
-and_assoc false b c = refl
+-- the byte of a place is not as it was filled
+abbrev pub is_changed : ℕ → ℕ × ℕ → Bool
+is_changed seed p = not (eqb p.1 (cell_at seed p.0))
 
-and-true : (a : Bool) → a && true ≡ a
-and-true true = refl
-and-true false = refl
+not_and : (a b : Bool) → not (a && b) ≡ (not a || not b)
+not_and true b = refl
+not_and false b = refl
 
--- what is left of l and of the pattern from place i on
-abbrev rest_same : ℕ → ℕ → List ℕ → Bool
-rest_same seed i l = same_text (drop i l) (drop i (pattern seed (length l)))
+-- l has its first byte at place k, as m has by the pattern
+changed_from : (seed k : ℕ) (l m : List ℕ) → length l ≡ length m → ((i : ℕ) → i < length m → get_or m i 0 ≡ cell_at seed (k + i))
+    → list_any (is_changed seed) (enumerate_from k l) ≡ not (same_text l m)
+changed_from seed k [] [] e f = refl
+changed_from seed k [] (b ∷ m) e f = absurd (omega arith)
+changed_from seed k (a ∷ l) [] e f = absurd (omega arith)
+changed_from seed k (a ∷ l) (b ∷ m) e f =
+    let first : b ≡ cell_at seed k = f 0 (omega arith) ∙ ap (cell_at seed) (add-zero k) in
+    let rest = changed_from seed (k + 1) l m (omega arith) (λ i h. f (suc i) (omega arith) ∙ ap (cell_at seed) {y = k + 1 + i} (omega arith)) in
+    rw (not_and (eqb a b) (same_text l m), rest, first)
 
--- same says whether the bytes before place i are the pattern's
-pub record SameSoFar (seed from : ℕ) (l : List ℕ) (same : Bool) (i : ℕ) : Type 0 where
-  pub compared : same && rest_same seed i l ≡ rest_same seed from l
+drop_numbered : (n k : ℕ) (l : List ℕ) → drop n (enumerate_from k l) ≡ enumerate_from (k + n) (drop n l)
+drop_numbered zero k l = rw (add-zero k)
+drop_numbered (suc n) k [] = refl
+drop_numbered (suc n) k (a ∷ l) = drop_numbered n (k + 1) l ∙ ap (λ (x : ℕ). enumerate_from x (drop n l)) {y = k + suc n} (omega arith)
 
-pub none_compared : (seed from : ℕ) (l : List ℕ) → SameSoFar seed from l true from
-none_compared seed from l = record { compared = refl }
-
-module _ (seed from : ℕ) (l : List ℕ) (same : Bool) (i : ℕ) (p : SameSoFar seed from l same i) where
-  pub one_compared : {b : ℕ} → i < length l → b ≡ cell_at seed i → SameSoFar seed from l (same && eqb (get_or l i 0) b) (i + 1)
-  one_compared {b} h e =
-      let whole = pattern seed (length l) in
-      let here : rest_same seed i l ≡ eqb (get_or l i 0) b && rest_same seed (i + 1) l =
-      rw (add-one i, drop-cons l i 0 h, drop-cons whole i 0 (rw (length_pattern seed (length l)) h), pattern_at seed (length l) i h, e) in
-      record { compared = and_assoc same (eqb (get_or l i 0) b) (rest_same seed (i + 1) l) ∙ ap (λ (r : Bool). same && r) (sym here) ∙ p.compared }
-
-  pub all_compared : length l ≤ i → not same ≡ is_spilt seed from l
-  all_compared h =
-      let none_left : rest_same seed i l ≡ true =
-      rw (drop_of_length-le l h, drop_of_length-le (pattern seed (length l)) {i = i} (rw (length_pattern seed (length l)) h)) in
-      ap not (sym (and-true same) ∙ ap (λ (r : Bool). same && r) (sym none_left) ∙ p.compared)
+pub spilt_told : (seed from : ℕ) (l : List ℕ) {r : Bool} → r ≡ list_any (is_changed seed) (drop from (enumerate_from 0 l)) → r ≡ is_spilt seed from l
+spilt_told seed from l e =
+    let whole = pattern seed (length l) in
+    let long : length whole ≡ length l = length_pattern seed (length l) in
+    e
+    ∙ ap (list_any (is_changed seed)) (drop_numbered from 0 l ∙ ap (λ (x : ℕ). enumerate_from x (drop from l)) {y = from} (omega arith))
+    ∙ changed_from seed from (drop from l) (drop from whole) (omega (arith, length-drop from l, length-drop from whole))
+    (λ i h. get_or-drop from whole i 0 ∙ pattern_at seed (length l) (from + i) (omega (arith, length-drop from whole)))

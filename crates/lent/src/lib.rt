@@ -9,16 +9,14 @@ ghost use Rattle.lent.specs.Patterns.{cell_at, pattern, is_spilt};
 fn cell(seed: u8, i: usize) -> u8
     ensures { result ≡ cell_at seed i }
 {
-    ((seed as usize + i % 256) % 256) as u8
+    seed.wrapping_add((i % 256) as u8)
 }
 
 pub fn fill(out: &mut [u8], seed: u8)
     ensures { out.new ≡ pattern seed (length out.old) }
 {
-    let mut i = 0;
-    while i < out.len() {
-        out[i] = cell(seed, i);
-        i += 1;
+    for (i, byte) in out.iter_mut().enumerate() {
+        *byte = cell(seed, i);
     }
 }
 
@@ -26,11 +24,8 @@ pub fn fill(out: &mut [u8], seed: u8)
 pub fn is_spilt(out: &[u8], seed: u8, from: usize) -> bool
     ensures { result ≡ is_spilt seed from out.now }
 {
-    let mut same = true;
-    let mut i = from;
-    while i < out.len() {
-        same = same & (out[i] == cell(seed, i));
-        i += 1;
-    }
-    !same
+    out.iter()
+        .enumerate()
+        .skip(from)
+        .any(|(i, byte)| *byte != cell(seed, i))
 }

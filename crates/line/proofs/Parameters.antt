@@ -2,6 +2,9 @@
 -- Assumes nothing.
 use mathlib.Core.Path.{◌≡◌, refl, sym, ap, ◌∙◌}
 use mathlib.Core.Bool.{Bool, true, false, cond, ◌&&◌, ◌||◌, and-false, and-eq-true_iff}
+use Rattle.std.proofs.Common.{Option, Some, None, Result, Ok, Err}
+use Rattle.std.specs.Option.{MatchOption}
+use Rattle.std.specs.Result.{MatchResult, IsOkAnd}
 use mathlib.Core.List.{List, [], ◌∷◌}
 use Prim.Native.Nat.{ℕ, suc, ◌+◌, ◌-◌, ◌≤◌, ◌<◌}
 use native.Mathlib.Omega.{arith}
@@ -14,11 +17,10 @@ use Rattle.line.specs.declared.judge.Situation.{Situation}
 use Rattle.line.specs.declared.judge.Verdict.{Verdict}
 use Rattle.line.specs.declared.judge.Verdict.TheVariants.{Wrong, Preset, Change, Show, Select}
 use Rattle.text.specs.Printable.{is_printable}
-use Rattle.line.specs.Judging.{is_shown, between_quotes, is_quoted, number_in, preset_from, preset_in, typed_in, threshold_of, threshold_in, unit_in}
-use Rattle.line.specs.Parts.{show_rule, amount_rule, preset_rule, threshold_rule, change_rule, code_rule, select_rule}
+use Rattle.line.specs.Judging.{is_shown, between_quotes, is_quoted, number_in, preset_from, preset_in, typed_in, unit_in}
+use Rattle.line.specs.Parts.{show_rule, preset_rule, change_rule, select_rule}
 use Rattle.weight.specs.declared.amount.Tare.{Tare}
-use Rattle.weight.specs.declared.amount.Typed.{Typed}
-use Rattle.weight.specs.declared.amount.Typed.TheVariants.{Amount, TooLarge, NotTyped}
+use Rattle.weight.specs.declared.amount.NoAmount.{NoAmount}
 use Rattle.weight.specs.declared.changes.Threshold.{Threshold}
 use Rattle.weight.specs.declared.units.WeightUnit.{WeightUnit}
 use Rattle.weight.specs.Characters.{space}
@@ -27,8 +29,6 @@ use Rattle.text.specs.Searching.{FirstAt, before_space, after_space, has_space}
 use Rattle.text.proofs.Named.{same_is}
 use Rattle.classes.specs.Classes.{first_in}
 use Rattle.text.proofs.Searching.{rest_is, quote_first}
-use Rattle.text.specs.declared.unit_texts.UnitRead.{UnitRead}
-use Rattle.text.specs.declared.unit_texts.UnitRead.TheVariants.{Named, Unknown}
 use Rattle.text.specs.UnitTexts.{unit_text, unit_coded}
 use Rattle.text.specs.Typed.{read_typed}
 
@@ -86,59 +86,10 @@ module _ (p : List ℕ) {q : Bool} (known : q ≡ is_quoted p) where
   unfolding show_rule
   shows_not e = rw (sym known ∙ e)
 
--- ---- TA
-
-module _ (capacity : ℕ) (n : Typed) where
-  module _ {m : Tare} (told : n ≡ Amount m) {within : Bool} (known : within ≡ leb m.0 capacity) where
-    pub within_capacity : within ≡ true → Preset m ≡ amount_rule capacity n
-    unfolding amount_rule
-    within_capacity e = rw (told, sym known ∙ e)
-
-    pub above_capacity : within ≡ false → Wrong place_ta ≡ amount_rule capacity n
-    unfolding amount_rule
-    above_capacity e = rw (told, sym known ∙ e)
-
-  pub too_large : n ≡ TooLarge → Wrong place_ta ≡ amount_rule capacity n
-  unfolding amount_rule
-  too_large told = rw told
-
-  pub not_typed : n ≡ NotTyped → Wrong place_ta ≡ amount_rule capacity n
-  unfolding amount_rule
-  not_typed told = rw told
-
--- ---- SR
-
-module _ (capacity : ℕ) (n : Typed) where
-  module _ {m : Tare} {t : Threshold} (told : n ≡ Amount m) (same : t.0 ≡ m.0) {within : Bool} (known : within ≡ leb t.0 capacity) where
-    limits : threshold_of capacity n ≡ (leb 1 t.0 && within)
-    limits = rw (told, sym same, known)
-
-    number : t ≡ threshold_in n
-    number = rw (told, sym same)
-
-    pub within_limits : (leb 1 t.0 && within) ≡ true → Change t ≡ threshold_rule capacity n
-    unfolding threshold_rule
-    within_limits e = ap Change number ∙ rw (limits ∙ e)
-
-    pub outside_limits : (leb 1 t.0 && within) ≡ false → Wrong place_sr ≡ threshold_rule capacity n
-    unfolding threshold_rule
-    outside_limits e = rw (limits ∙ e)
-
-  pub threshold_too_large : n ≡ TooLarge → Wrong place_sr ≡ threshold_rule capacity n
-  unfolding threshold_rule
-  threshold_too_large told = rw told
-
-  pub threshold_not_typed : n ≡ NotTyped → Wrong place_sr ≡ threshold_rule capacity n
-  unfolding threshold_rule
-  threshold_not_typed told = rw told
-
 -- ---- number, space, unit
 
 module _ (u : WeightUnit) (p : List ℕ) (i : ℕ) (at : FirstAt space p i) where
-  pub number_cells : i ≡ length (take i p)
-  number_cells = sym (length-take-le i p at.in_text)
-
-  pub no_space : length p ≤ i → take 0 p ≡ number_in u p
+  pub no_space : length p ≤ i → [] ≡ number_in u p
   unfolding number_in
   no_space h = rw (sym at.has ∙ le-ltb i (length p) h)
 
@@ -147,7 +98,7 @@ module _ (u : WeightUnit) (p : List ℕ) (i : ℕ) (at : FirstAt space p i) wher
     unit_of_lem : same_text (after_space p) (unit_text u) ≡ same
     unit_of_lem = sym (known ∙ ap (λ (t : List ℕ). same_text t (unit_text u)) (rest_is (i + 1) p ∙ at.after))
 
-    pub other_unit : same ≡ false → take 0 p ≡ number_in u p
+    pub other_unit : same ≡ false → [] ≡ number_in u p
     unfolding number_in
     other_unit e = rw (unit_of_lem ∙ e, and-false (has_space p))
 
@@ -155,26 +106,67 @@ module _ (u : WeightUnit) (p : List ℕ) (i : ℕ) (at : FirstAt space p i) wher
     unfolding number_in
     own_unit h e = at.before ∙ rw (unit_of_lem ∙ e, sym at.has ∙ lt-ltb i (length p) h)
 
--- what is read is judged
-module _ (j : Situation) (p : List ℕ) {t : List ℕ} {n : Typed} {r : Verdict} (number : t ≡ number_in j.resolution.unit p) where
-  pub preset_read : n ≡ preset_from j t → r ≡ amount_rule j.capacity n → r ≡ preset_rule j p
-  unfolding preset_rule preset_in
-  preset_read read e = e ∙ ap (amount_rule j.capacity) (read ∙ ap (preset_from j) number)
+-- ---- TA and SR: what is read is judged
 
-  pub change_read : n ≡ read_typed j.resolution.unit t → r ≡ threshold_rule j.capacity n → r ≡ change_rule j p
-  unfolding change_rule typed_in
-  change_read read e = e ∙ ap (threshold_rule j.capacity) (read ∙ ap (read_typed j.resolution.unit) number)
+-- the number of a threshold, or why there is none
+sized_by : (n : Result Tare NoAmount) (s : Result Threshold NoAmount) (h : Threshold) → MatchResult n (λ m. IsOkAnd s (λ t. t.0 ≡ m.0)) (λ e. s ≡ Err e)
+    → s ≡ Ok h → n ≡ Ok (record { 0 = h.0 })
+sized_by (Ok m) (Ok t) h same is =
+    let one : t ≡ h = cc in
+    ap (λ (v : ℕ). Ok (record { 0 = v })) (sym same ∙ ap (λ (x : Threshold). x.0) one)
+sized_by (Ok m) (Err e) h same is = absurd same
+sized_by (Err e) s h same is = absurd (cc)
+
+none_by : (n : Result Tare NoAmount) (s : Result Threshold NoAmount) (r : NoAmount) → MatchResult n (λ m. IsOkAnd s (λ t. t.0 ≡ m.0)) (λ e. s ≡ Err e)
+    → s ≡ Err r → n ≡ Err r
+none_by (Ok m) (Ok t) r same is = absurd (cc)
+none_by (Ok m) (Err e) r same is = absurd same
+none_by (Err e) s r same is = cc
+
+module _ (j : Situation) (p : List ℕ) {t : List ℕ} (number : t ≡ number_in j.resolution.unit p) {n : Result Tare NoAmount} where
+  module _ (read : n ≡ preset_from j t) where
+    preset_is : preset_in j p ≡ n
+    unfolding preset_in
+    preset_is = sym (read ∙ ap (preset_from j) number)
+
+    pub preset_taken : {m : Tare} {within : Bool} → n ≡ Ok m → within ≡ leb m.0 j.capacity → within ≡ true → Preset m ≡ preset_rule j p
+    unfolding preset_rule
+    preset_taken is known e = rw (preset_is, is, sym known ∙ e)
+
+    pub preset_above : {m : Tare} {within : Bool} → n ≡ Ok m → within ≡ leb m.0 j.capacity → within ≡ false → Wrong place_ta ≡ preset_rule j p
+    unfolding preset_rule
+    preset_above is known e = rw (preset_is, is, sym known ∙ e)
+
+    pub preset_none : {e : NoAmount} → n ≡ Err e → Wrong place_ta ≡ preset_rule j p
+    unfolding preset_rule
+    preset_none is = rw (preset_is, is)
+
+  module _ (read : n ≡ read_typed j.resolution.unit t) where
+    typed_is : typed_in j p ≡ n
+    unfolding typed_in
+    typed_is = sym (read ∙ ap (read_typed j.resolution.unit) number)
+
+    module _ {s : Result Threshold NoAmount} (sized : MatchResult n (λ m. IsOkAnd s (λ h. h.0 ≡ m.0)) (λ e. s ≡ Err e)) where
+      module _ {h : Threshold} {within : Bool} (is : s ≡ Ok h) (known : within ≡ leb h.0 j.capacity) where
+        pub change_taken : (leb 1 h.0 && within) ≡ true → Change h ≡ change_rule j p
+        unfolding change_rule
+        change_taken e = rw (typed_is, sized_by n s h sized is, sym known, e)
+
+        pub change_outside : (leb 1 h.0 && within) ≡ false → Wrong place_sr ≡ change_rule j p
+        unfolding change_rule
+        change_outside e = rw (typed_is, sized_by n s h sized is, sym known, e)
+
+      pub change_none : {e : NoAmount} → s ≡ Err e → Wrong place_sr ≡ change_rule j p
+      unfolding change_rule
+      change_none {e} is = rw (typed_is, none_by n s e sized is)
 
 -- ---- M21
 
-module _ (n : UnitRead) where
-  pub code_known : {u : WeightUnit} → n ≡ Named u → Select u ≡ code_rule n
-  unfolding code_rule
-  code_known told = rw told
-
-  pub code_unknown : n ≡ Unknown → Wrong place_m21 ≡ code_rule n
-  unfolding code_rule
-  code_unknown told = rw told
+-- a code that is read
+pub coded_row : (p : List ℕ) (o : Option WeightUnit) {r : Verdict} → unit_in p ≡ o → MatchOption o (r ≡ Wrong place_m21) (λ u. r ≡ Select u) → r ≡ select_rule p
+unfolding select_rule
+coded_row p None is told = told ∙ rw is
+coded_row p (Some u) is told = told ∙ rw is
 
 -- 0 and a space stand in front where 0 stands before the first space
 host_front : (p : List ℕ) → same_text (take 2 p) (ascii "0 ") ≡ has_space p && same_text (before_space p) (ascii "0")
@@ -193,12 +185,12 @@ host_front (a ∷ b ∷ p) = by (eqb a space) (eqb b space) refl
     by false false e = and-false (eqb a 48) ∙ sym (ap (λ (x : Bool). has_space p && x) (and-false (eqb a 48)) ∙ and-false (has_space p))
 
 module _ (p : List ℕ) {i : ℕ} (f : FirstAt space p i) where
-  pub front_cells : i ≡ length (take i p)
+  front_cells : i ≡ length (take i p)
   front_cells = sym (length-take-le i p f.in_text)
 
   -- without a space there is no code
   pub no_code : length p ≤ i → Wrong place_m21 ≡ select_rule p
-  unfolding select_rule unit_in code_rule
+  unfolding select_rule unit_in
   no_code h = rw (host_front p, ← f.has, le-ltb i (length p) h)
 
   module _ {same : Bool} (within : i < length p) (known : same ≡ same_text (take i p) (48 ∷ [])) where
@@ -206,12 +198,13 @@ module _ (p : List ℕ) {i : ℕ} (f : FirstAt space p i) where
     front = host_front p ∙ rw (← f.has, lt-ltb i (length p) within, ← f.before) (sym known)
 
     pub other_place : same ≡ false → Wrong place_m21 ≡ select_rule p
-    unfolding select_rule unit_in code_rule
+    unfolding select_rule unit_in
     other_place e = rw (front ∙ e)
 
-    pub code_read : {n : UnitRead} {r : Verdict} → same ≡ true → n ≡ unit_coded (take (length p - (i + 1)) (drop (i + 1) p)) → r ≡ code_rule n → r ≡ select_rule p
-    unfolding select_rule unit_in
-    code_read e read told =
-        let zero-alone : take i p ≡ 48 ∷ [] = same_is (take i p) (48 ∷ []) (sym known ∙ e) in
-        let one : i ≡ 1 = front_cells ∙ ap length zero-alone in
-        told ∙ ap code_rule (read ∙ ap unit_coded (rest_is (i + 1) p ∙ ap (λ (k : ℕ). drop (k + 1) p) one)) ∙ rw (front ∙ e)
+    -- what follows the space is read as a code
+    pub code_read : same ≡ true → unit_in p ≡ unit_coded (take (length p - (i + 1)) (drop (i + 1) p))
+    unfolding unit_in
+    code_read e =
+        let zero_alone : take i p ≡ 48 ∷ [] = same_is (take i p) (48 ∷ []) (sym known ∙ e) in
+        let one : i ≡ 1 = front_cells ∙ ap length zero_alone in
+        rw (front ∙ e) (sym (ap unit_coded (rest_is (i + 1) p ∙ ap (λ (k : ℕ). drop (k + 1) p) one)))

@@ -4,6 +4,7 @@ use Prim.Native.Nat.{ℕ, suc, ◌≤◌}
 use native.Mathlib.Omega.{arith}
 use mathlib.Core.Path.{◌≡◌, refl, sym, ap, ◌∙◌}
 use mathlib.Core.Bool.{true, false}
+use Rattle.std.proofs.Common.{Ok}
 use mathlib.Core.List.{List, [], ◌∷◌, ◌++◌}
 use borrow.Author.Tests.{le-leb, le-ltb, leb-true, ne_eqb}
 use lib.Dec.{leb, ltb}
@@ -23,7 +24,6 @@ use Rattle.text.proofs.DecimalText.{decimal_bytes}
 use Rattle.text.proofs.Named.{same_self}
 use Rattle.text.proofs.TypedText.{typed_decimal}
 use Rattle.weight.specs.declared.amount.Tare.{Tare}
-use Rattle.weight.specs.declared.amount.Typed.TheVariants.{Amount}
 use Rattle.weight.specs.declared.units.WeightUnit.{WeightUnit}
 use Rattle.weight.specs.declared.units.WeightUnit.TheVariants.{G, Mg, Ct, Oz, Ozt, Gn, Dwt, Kg, Lb}
 use Rattle.weight.specs.Characters.{space}
@@ -91,7 +91,7 @@ module _ (j : Situation) (f : List Marked) (x : List ℕ) where
       : {m : Tare}
       → GoodLine f (ascii "TA " ++ (x ++ (space ∷ unit)))
       → is_typed x ≡ true
-      → preset_from j x ≡ Amount m
+      → preset_from j x ≡ Ok m
       → m.0 ≤ j.capacity
       → j.waiting ≡ false
       → judgement_of j f ≡ Preset m

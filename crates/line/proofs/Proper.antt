@@ -11,7 +11,7 @@ use borrow.Author.Tests.{le-ltb}
 use Rattle.answer.specs.Commands.{command_count, needs_sample, place_d, place_reset}
 use Rattle.line.specs.declared.judge.Situation.{Situation}
 use Rattle.line.specs.declared.judge.Verdict.{Verdict}
-use Rattle.line.specs.declared.judge.Verdict.TheVariants.{Erroneous, Reset, Busy, Wrong, NoSample, Run, Preset, Change, Show, Select}
+use Rattle.line.specs.declared.judge.Verdict.TheVariants.{Run, Preset, Change, Show}
 use Rattle.line.specs.declared.receive.Line.{Line}
 use Rattle.line.specs.Judging.{judgement}
 use Rattle.line.specs.Receiving.{content_of, line_limit}
@@ -48,55 +48,29 @@ run_may j f {c} h =
 
 -- a command that is run has a rule
 abbrev pub RuledBy : Verdict → Type 0
-RuledBy (Erroneous e) = Unit
-RuledBy Reset = Unit
-RuledBy (Busy c) = Unit
-RuledBy (Wrong c) = Unit
-RuledBy (NoSample c) = Unit
 RuledBy (Run c) = Ruled c
-RuledBy (Preset m) = Unit
-RuledBy (Change t) = Unit
-RuledBy (Show n) = Unit
-RuledBy (Select u) = Unit
+RuledBy _ = Unit
 
 pub verdict_ruled : (j : Situation) (f : List Marked) (v : Verdict) → judgement_of j f ≡ v → RuledBy v
-verdict_ruled j f (Erroneous e) h = tt
-verdict_ruled j f Reset h = tt
-verdict_ruled j f (Busy c) h = tt
-verdict_ruled j f (Wrong c) h = tt
-verdict_ruled j f (NoSample c) h = tt
 verdict_ruled j f (Run c) h = (run_may j f h).ruled
-verdict_ruled j f (Preset m) h = tt
-verdict_ruled j f (Change t) h = tt
-verdict_ruled j f (Show n) h = tt
-verdict_ruled j f (Select u) h = tt
+verdict_ruled j f _ h = tt
 
 -- ---- a verdict on the line l
 
 abbrev pub Proper : Situation → Line → Verdict → Type 0
-Proper j l (Erroneous e) = Unit
-Proper j l Reset = Unit
-Proper j l (Busy c) = Unit
-Proper j l (Wrong c) = Unit
-Proper j l (NoSample c) = Unit
 Proper j l (Run c) = RunMay j c
 Proper j l (Preset m) = m.0 ≤ j.capacity
 Proper j l (Change t) = t.0 ≤ j.capacity
 Proper j l (Show n) = Shown l n
-Proper j l (Select u) = Unit
+Proper j l _ = Unit
 
 module _ (j : Situation) (f : List Marked) (l : Line) (held : Holds l f) where
   pub verdict_proper : (v : Verdict) → judgement_of j f ≡ v → Proper j l v
-  verdict_proper (Erroneous e) h = tt
-  verdict_proper Reset h = tt
-  verdict_proper (Busy c) h = tt
-  verdict_proper (Wrong c) h = tt
-  verdict_proper (NoSample c) h = tt
   verdict_proper (Run c) h = run_may j f h
   verdict_proper (Preset m) h = (preset_line j f h).within
   verdict_proper (Change t) h = (change_line j f h).within
   verdict_proper (Show n) h = show_cells j l f n held (show_line j f h)
-  verdict_proper (Select u) h = tt
+  verdict_proper _ h = tt
 
 -- ---- the cells alone
 

@@ -3,7 +3,11 @@
 use mathlib.Core.Path.{◌≡◌, refl, sym, ap, ◌∙◌}
 use mathlib.Core.Bool.{Bool, true, false, cond, not, ◌&&◌, ◌||◌, or-false}
 use mathlib.Core.List.{List}
-use Prim.Native.Nat.{ℕ, ◌+◌, ◌-◌, ◌≤◌, ◌<◌, min}
+use denote.Ref.{Bor}
+use Rattle.std.proofs.Common.{Option, Some, None}
+use Rattle.std.specs.Option.{MatchOption}
+use Rattle.std.specs.Slice.{IsGetRangeResult}
+use Prim.Native.Nat.{ℕ, ◌+◌, ◌≤◌, min}
 use native.Mathlib.Omega.{arith}
 use lib.Dec.{leb, ltb}
 use lib.ListN.{length, take, drop}
@@ -14,71 +18,60 @@ use Rattle.answer.specs.Commands.{command_count, names, needs_sample, place_d, p
 use Rattle.line.specs.declared.receive.Line.{Line}
 use Rattle.line.specs.declared.judge.Situation.{Situation}
 use Rattle.line.specs.declared.judge.Verdict.{Verdict}
-use Rattle.line.specs.declared.judge.Verdict.TheVariants.{Erroneous, Reset, Busy, Wrong, NoSample, Run, Preset, Change, Show, Select}
+use Rattle.line.specs.declared.judge.Verdict.TheVariants.{Erroneous, Reset, Busy, Wrong, NoSample, Run}
 use Rattle.line.specs.Receiving.{content_of, line_limit}
-use Rattle.line.specs.Judging.{has_control, command_in, is_quoted, preset_in, typed_in, amount_in, threshold_in, unit_in, is_coded, unit_of, is_preset, is_threshold, is_wrong, own_rule, judgement}
-use Rattle.line.specs.Parts.{show_rule, amount_rule, preset_rule, threshold_rule, change_rule, code_rule, select_rule, last_rows, text_rows}
+use Rattle.line.specs.Judging.{has_control, command_in, is_wrong, own_rule, judgement}
+use Rattle.line.specs.Parts.{show_rule, preset_rule, change_rule, select_rule, last_rows, text_rows}
 use Rattle.weight.specs.Characters.{space}
 use Rattle.text.specs.Searching.{FirstAt, after_space, has_space}
 use Rattle.text.proofs.Searching.{rest_is}
 use Rattle.classes.specs.Classes.{first_in}
 use Rattle.weight.proofs.Allowed.{neither_left, neither_right}
-use Rattle.line.proofs.Scanning.{place_limit, scanned_all, space_at_break}
+use Rattle.line.proofs.Scanning.{scanned_all, space_at_break}
 
 -- ---- rows 6 to 8
 
--- the same choice by the opposite test
-opposite : (q : Bool) (a b : Verdict) → cond q a b ≡ cond (not q) b a
-opposite true a b = refl
-opposite false a b = refl
+-- a right parameter, a wrong one, none
+asked : (s right : Bool) (p w r : Verdict) → cond s (cond right p w) r ≡ cond (s && not right) w (cond s p r)
+asked true true p w r = refl
+asked true false p w r = refl
+asked false right p w r = refl
 
-module _ (j : Situation) (c : ℕ) (t : List ℕ) (i : ℕ) (at : FirstAt space t i) where
-  has : i < length t → has_space t ≡ true
-  has h = sym at.has ∙ lt-ltb i (length t) h
+due : (s right : Bool) (p w : Verdict) → cond s (cond right p w) w ≡ cond (not (s && right)) w p
+due true true p w = refl
+due true false p w = refl
+due false right p w = refl
 
-  has_not : length t ≤ i → has_space t ≡ false
-  has_not h = sym at.has ∙ le-ltb i (length t) h
-
-  after : take (length t - (i + 1)) (drop (i + 1) t) ≡ after_space t
-  after = rest_is (i + 1) t ∙ at.after
-
-  pub show_parameter : {r : Verdict} → c ≡ place_d → i < length t → r ≡ show_rule (take (length t - (i + 1)) (drop (i + 1) t))
-      → r ≡ last_rows j c t
+module _ (j : Situation) (t : List ℕ) where
+  pub show_row : cond (has_space t) (show_rule (after_space t)) (Wrong place_d) ≡ last_rows j place_d t
   unfolding show_rule last_rows is_wrong own_rule
-  show_parameter e h f = f ∙ ap show_rule after ∙ rw (e, has h) (rw (or-false (not (is_quoted (after_space t))), or-false (not (is_quoted (after_space t))), or-false (not (is_quoted (after_space t)))) (opposite (is_quoted (after_space t)) (Show (length (after_space t) - 2)) (Wrong place_d)))
+  show_row = simp or-false (due (has_space t) _ _ _)
 
-  pub show_nothing : c ≡ place_d → length t ≤ i → Wrong place_d ≡ last_rows j c t
-  unfolding last_rows is_wrong
-  show_nothing e h = rw (e, has_not h)
+  pub preset_row : cond (has_space t) (preset_rule j (after_space t)) (Run place_ta) ≡ last_rows j place_ta t
+  unfolding preset_rule last_rows is_wrong own_rule
+  preset_row = simp or-false (asked (has_space t) _ _ _ _)
 
-  pub preset_parameter : {r : Verdict} → c ≡ place_ta → i < length t → r ≡ preset_rule j (take (length t - (i + 1)) (drop (i + 1) t))
-      → r ≡ last_rows j c t
-  unfolding preset_rule amount_rule last_rows is_wrong own_rule
-  preset_parameter e h f = f ∙ ap (preset_rule j) after ∙ rw (e, has h) (rw (or-false (not (is_preset j (after_space t))), or-false (not (is_preset j (after_space t)))) (opposite (is_preset j (after_space t)) (Preset (amount_in (preset_in j (after_space t)))) (Wrong place_ta)))
+  pub change_row : cond (has_space t) (change_rule j (after_space t)) (Run place_sr) ≡ last_rows j place_sr t
+  unfolding change_rule last_rows is_wrong own_rule
+  change_row = simp or-false (asked (has_space t) _ _ _ _)
 
-  pub preset_asked : c ≡ place_ta → length t ≤ i → Run place_ta ≡ last_rows j c t
-  unfolding last_rows is_wrong own_rule
-  preset_asked e h = rw (e, has_not h)
+  pub select_row : cond (has_space t) (select_rule (after_space t)) (Run place_m21) ≡ last_rows j place_m21 t
+  unfolding select_rule last_rows is_wrong own_rule
+  select_row = asked (has_space t) _ _ _ _
 
-  pub change_parameter : {r : Verdict} → c ≡ place_sr → i < length t → r ≡ change_rule j (take (length t - (i + 1)) (drop (i + 1) t))
-      → r ≡ last_rows j c t
-  unfolding change_rule threshold_rule last_rows is_wrong own_rule
-  change_parameter e h f = f ∙ ap (change_rule j) after ∙ rw (e, has h) (rw (or-false (not (is_threshold j (after_space t)))) (opposite (is_threshold j (after_space t)) (Change (threshold_in (typed_in j (after_space t)))) (Wrong place_sr)))
+  -- by what follows the space, or nothing where there is none
+  pub by_parameter : {c k i : ℕ} → c ≡ k → FirstAt space t i → (o : Option (Bor (List ℕ))) → IsGetRangeResult t (i + 1) (length t) o
+      → (rule : List ℕ → Verdict) (alone : Verdict) {r : Verdict} {Told : Bor (List ℕ) → Type 0} → MatchOption o (r ≡ alone) Told
+      → ((p : Bor (List ℕ)) → Told p → r ≡ rule p.now) → cond (has_space t) (rule (after_space t)) alone ≡ last_rows j k t → r ≡ last_rows j c t
+  by_parameter {c} {k} {i} e at None got rule alone told read row =
+      told ∙ rw (sym at.has ∙ le-ltb i (length t) (omega (arith, got))) at row ∙ ap (λ x. last_rows j x t) (sym e)
+  by_parameter {c} {k} {i} e at (Some p) got rule alone told read row =
+      read p told
+      ∙ ap rule (got.0.2 ∙ rest_is (i + 1) t ∙ at.after)
+      ∙ rw (sym at.has ∙ lt-ltb i (length t) (omega (arith, got))) at row
+      ∙ ap (λ x. last_rows j x t) (sym e)
 
-  pub change_asked : c ≡ place_sr → length t ≤ i → Run place_sr ≡ last_rows j c t
-  unfolding last_rows is_wrong own_rule
-  change_asked e h = rw (e, has_not h)
-
-  pub select_parameter : {r : Verdict} → c ≡ place_m21 → i < length t → r ≡ select_rule (take (length t - (i + 1)) (drop (i + 1) t))
-      → r ≡ last_rows j c t
-  unfolding select_rule code_rule last_rows is_wrong own_rule
-  select_parameter e h f =
-      f ∙ ap select_rule after ∙ rw (e, has h) (opposite (is_coded (unit_in (after_space t))) (Select (unit_of (unit_in (after_space t)))) (Wrong place_m21))
-
-  pub select_asked : c ≡ place_m21 → length t ≤ i → Run place_m21 ≡ last_rows j c t
-  unfolding last_rows is_wrong own_rule
-  select_asked e h = rw (e, has_not h)
-
+module _ (j : Situation) (c : ℕ) (t : List ℕ) where
   module _ (d : c ≡ place_d → ⊥) (ta : c ≡ place_ta → ⊥) (sr : c ≡ place_sr → ⊥) (m : c ≡ place_m21 → ⊥) {lacks : Bool} (known : lacks ≡ (needs_sample c && not j.sampled)) where
     pub no_sample : lacks ≡ true → NoSample c ≡ last_rows j c t
     unfolding last_rows is_wrong
@@ -90,16 +83,12 @@ module _ (j : Situation) (c : ℕ) (t : List ℕ) (i : ℕ) (at : FirstAt space 
 
 -- ---- the whole table
 
--- the name's cells
-pub name_cells : (t : List ℕ) (s : ℕ) {i : ℕ} → i ≡ first_in s t → i ≡ length (take i t)
-name_cells t s {i} first = sym (length-take-le i t (place_limit t s first))
-
 module _ (j : Situation) (faulty over : Bool) (t : List ℕ) where
   pub row_1 : faulty ≡ true → Erroneous Transmission ≡ text_rows j faulty over t
   unfolding text_rows
   row_1 e = rw e
 
-  module _ (i : ℕ) (first : i ≡ first_in 68 t) {control : Bool} (scanned : control ≡ has_control (take (length t - i) (drop i t))) where
+  module _ (i : ℕ) (first : i ≡ first_in 68 t) {control : Bool} (scanned : control ≡ has_control (drop i t)) where
     -- what is known of the line: no control byte is in it, so its name ends at a space
     pub space_known : (c : ℕ) → (over || control || leb command_count c) ≡ false → FirstAt space t i
     space_known c known = space_at_break t first scanned (neither_right over control (neither_left (over || control) (leb command_count c) known))

@@ -1,47 +1,37 @@
 -- Bytes taken one after another: those so far, and then the rest.
 -- Assumes nothing.
-use mathlib.Core.Path.{◌≡◌, refl, sym, ap, subst, ◌∙◌}
-use mathlib.Core.Bool.{Bool, true, false, cond, not, ◌&&◌, ◌||◌, or-true, or-false, or_assoc, true≢false}
-use mathlib.Core.List.{List, [], ◌∷◌}
-use Prim.Native.Nat.{ℕ, zero, suc, ◌+◌, ◌-◌, ◌≤◌, ◌<◌}
+use mathlib.Core.Path.{◌≡◌, refl, sym, ap, ◌∙◌}
+use mathlib.Core.Bool.{Bool, true, false, not, ◌||◌, cond, or-true, or-false, or_assoc, and-false, true≢false}
+use mathlib.Core.List.{List, [], ◌∷◌, append_assoc}
+use Prim.Native.Nat.{ℕ, zero, suc, ◌+◌, ◌-◌, ◌≤◌, ◌<◌, min}
 use native.Mathlib.Nat.{zero-add, add-zero}
 use native.Mathlib.Numerals.{add-one}
 use native.Mathlib.Omega.{arith}
-use borrow.Author.Tests.{lt-ltb}
-use lib.Dec.{ltb, eqb}
-use lib.ListN.{length, get_or, take, drop, set, drop_of_length-le, length-drop}
-use lib.Seq.{drop-drop}
-use Rattle.line.specs.declared.receive.Held.{Held}
+use borrow.Author.Tests.{lt-ltb, leb-true, leb-false}
+use lib.Dec.{leb, ltb, eqb, leb-suc-suc}
+use lib.ListN.{length, get_or, take, drop, drop_of_length-le, length-drop, take-append-drop}
+use lib.Seq.{drop-drop, length-take-le, sets, sets-eq}
+use borrow.Rule.Slice.PartMut.{put_mid}
+use Rattle.std.specs.List.{fold}
 use Rattle.line.specs.declared.receive.Line.{Line}
 use Rattle.line.specs.declared.run.Run.{Run}
-use Rattle.line.specs.Receiving.{continued_line, ends_line, received_byte, carriage_return, line_limit}
-use Rattle.line.specs.Runs.{marked_by, marked_bytes, one_more, received_run, any_mark_set, line_with, after_bytes, SoFar, PassedSoFar}
+use Rattle.line.specs.Receiving.{continued_line, joined_line, settled_line, ends_line, received_byte, carriage_return, line_limit}
+use Rattle.line.specs.Runs.{marked_by, marked_bytes, one_more, received_run, any_mark_set, after_bytes, SoFar}
 use Rattle.line.specs.Unbounded.{Marked}
-use Rattle.line.proofs.Joining.{settled_before, over_before, joins_full, joins_next}
-use Rattle.text.specs.Searching.{before_first, has_byte, FirstAt}
-use Rattle.text.proofs.Searching.{rest_is}
+use Rattle.line.proofs.Joining.{no_room, next_cell}
+use Rattle.text.specs.Searching.{FirstAt, before_first, has_byte}
 
 -- ---- bytes with their marks
 
--- neither is passed
-pub marked_reach : (bs ms : List ℕ) → (length (marked_bytes bs ms) ≤ length bs) × (length (marked_bytes bs ms) ≤ length ms)
+-- as many as both reach
+pub marked_length : (bs ms : List ℕ) → length (marked_bytes bs ms) ≡ min (length bs) (length ms)
 unfolding marked_bytes
-marked_reach [] ms = (omega arith, omega arith)
-marked_reach (b ∷ bs) [] = (omega arith, omega arith)
-marked_reach (b ∷ bs) (m ∷ ms) = let r = marked_reach bs ms in (omega arith, omega arith)
-
-pub fewer_marks : (bs ms : List ℕ) → length ms ≤ length bs → length ms ≡ length (marked_bytes bs ms)
-unfolding marked_bytes
-fewer_marks [] [] h = refl
-fewer_marks [] (m ∷ ms) h = absurd (omega arith)
-fewer_marks (b ∷ bs) [] h = refl
-fewer_marks (b ∷ bs) (m ∷ ms) h = ap suc (fewer_marks bs ms (omega arith))
+marked_length [] ms = omega arith
+marked_length (b ∷ bs) [] = omega arith
+marked_length (b ∷ bs) (m ∷ ms) = let rest = marked_length bs ms in omega arith
 
 pub fewer_bytes : (bs ms : List ℕ) → length bs ≤ length ms → length bs ≡ length (marked_bytes bs ms)
-unfolding marked_bytes
-fewer_bytes [] ms h = refl
-fewer_bytes (b ∷ bs) [] h = absurd (omega arith)
-fewer_bytes (b ∷ bs) (m ∷ ms) h = ap suc (fewer_bytes bs ms (omega arith))
+fewer_bytes bs ms h = omega (arith, marked_length bs ms)
 
 -- the next one
 pub marked_at : (bs ms : List ℕ) (i : ℕ) → i < length (marked_bytes bs ms)
@@ -108,57 +98,90 @@ module _ (l : Line) (ms : List Marked) where
 
 -- ---- marks
 
--- those from a place on
-pub any_from : (i : ℕ) (ks : List ℕ) → i < length ks → any_mark_set (drop i ks) ≡ (not (eqb (get_or ks i 0) 0) || any_mark_set (drop (suc i) ks))
-any_from i [] h = absurd (omega arith)
-any_from zero (k ∷ ks) h = refl
-any_from (suc i) (k ∷ ks) h = any_from i ks (omega arith)
+-- the marks one after another
+any_along : (any : Bool) (ks : List ℕ) → fold (λ (a : Bool) (k : ℕ). a || not (eqb k 0)) any ks ≡ (any || any_mark_set ks)
+any_along any [] = sym (or-false any)
+any_along any (k ∷ ks) = any_along (any || not (eqb k 0)) ks ∙ or_assoc any (not (eqb k 0)) (any_mark_set ks)
 
--- one more is looked at
-pub any_step : (ks : List ℕ) (i : ℕ) (any : Bool) → i < length ks → any_mark_set ks ≡ (any || any_mark_set (drop i ks))
-    → any_mark_set ks ≡ ((any || not (eqb (get_or ks i 0) 0)) || any_mark_set (drop (i + 1) ks))
-any_step ks i any h e =
-    e ∙ ap (λ (x : Bool). any || x) (any_from i ks h) ∙ sym (or_assoc any (not (eqb (get_or ks i 0) 0)) (any_mark_set (drop (suc i) ks))) ∙ rw (add-one i)
-
--- all were
-pub any_all : (ks : List ℕ) (i : ℕ) (any : Bool) → length ks ≤ i → any_mark_set ks ≡ (any || any_mark_set (drop i ks)) → any ≡ any_mark_set ks
-any_all ks i any h e = sym (e ∙ rw (drop_of_length-le ks h, or-false any))
+pub any_told : (ks : List ℕ) {r : Bool} → r ≡ fold (λ (a : Bool) (k : ℕ). a || not (eqb k 0)) false ks → r ≡ any_mark_set ks
+any_told ks e = e ∙ any_along false ks
 
 -- ---- bytes other than CR, with no CR kept apart before them
 
--- a CR, good or not, is left to the next turn
-not_return : (b : ℕ) (bad : Bool) → eqb b carriage_return ≡ false → not (not bad && eqb b carriage_return) ≡ true
-not_return b true e = refl
-not_return b false e = rw e
+-- what is known of the line after n of them
+abbrev pub filled : Line → ℕ → List ℕ → List ℕ → Line
+filled l n bs ks =
+    let k = min n (line_limit - l.len) in
+    record {
+      bytes = sets l.bytes l.len (take k bs);
+      len = l.len + k;
+      over = l.over || ltb k n;
+      faulty = l.faulty || any_mark_set (take n ks);
+      returned = false;
+    }
 
-module _ (k : Line) (b : ℕ) (bad : Bool) (none : k.returned ≡ false) (other : eqb b carriage_return ≡ false) where
-  no_end : ends_line k b bad ≡ false
-  no_end = go bad
-    where
-      go : (x : Bool) → ends_line k b x ≡ false
-      go true = refl
-      go false = rw none
+filled_none : (l : Line) (bs ks : List ℕ) → l.returned ≡ false → l ≡ filled l 0 bs ks
+filled_none l bs ks e =
+    let k : min 0 (line_limit - l.len) ≡ 0 = omega arith in
+    ap (λ (x : Bool). record l { returned = x }) e ∙ rw (k, or-false l.over, or-false l.faulty, add-zero l.len)
 
-  returned_not : (not bad && eqb b carriage_return) ≡ false
-  returned_not = go bad
-    where
-      go : (x : Bool) → (not x && eqb b carriage_return) ≡ false
-      go true = refl
-      go false = rw other
+-- one more at their front
+filled_more : (l : Line) (b k n : ℕ) (bs ks : List ℕ) → filled (joined_line l b (not (eqb k 0))) n bs ks ≡ filled l (suc n) (b ∷ bs) (k ∷ ks)
+filled_more l b k n bs ks = by (leb line_limit l.len) refl
+  where
+    bad : Bool
+    bad = not (eqb k 0)
 
-  -- it takes the next cell
-  pub fills_next : k.len < line_limit
-      → record { bytes = set k.bytes k.len b; len = k.len + 1; over = k.over; faulty = k.faulty || bad; returned = false } ≡ continued_line k b bad
-  fills_next h =
-      ap (λ (x : Bool). record { bytes = set k.bytes k.len b; len = k.len + 1; over = k.over; faulty = k.faulty || bad; returned = x }) (sym returned_not)
-      ∙ joins_next k b bad (settled_before k none refl refl) (over_before k none refl) (not_return b bad other) h
+    by : (full : Bool) → leb line_limit l.len ≡ full → filled (joined_line l b (not (eqb k 0))) n bs ks ≡ filled l (suc n) (b ∷ bs) (k ∷ ks)
+    by true e =
+        let h : line_limit ≤ l.len = leb-true line_limit l.len e in
+        let none : min n (line_limit - l.len) ≡ 0 = omega arith in
+        let none_more : min (suc n) (line_limit - l.len) ≡ 0 = omega arith in
+        rw (← no_room l b bad h, none, none_more, lt-ltb 0 (suc n) (omega arith), or-true l.over, or_assoc l.faulty bad (any_mark_set (take n ks)))
+    by false e =
+        let h : l.len < line_limit = leb-false line_limit l.len e in
+        let more : min (suc n) (line_limit - l.len) ≡ suc (min n (line_limit - (l.len + 1))) = omega arith in
+        let m : ℕ = min n (line_limit - (l.len + 1)) in
+        let count : l.len + 1 + m ≡ l.len + suc m = omega arith in
+        rw (← next_cell l b bad h, more) (cc (add-one l.len, count, leb-suc-suc (suc m) n, or_assoc l.faulty bad (any_mark_set (take n ks))))
 
-  -- or there is none
-  pub fills_none : line_limit ≤ k.len
-      → record { bytes = k.bytes; len = k.len; over = true; faulty = k.faulty || bad; returned = false } ≡ continued_line k b bad
-  fills_none h =
-      ap (λ (x : Bool). record { bytes = k.bytes; len = k.len; over = true; faulty = k.faulty || bad; returned = x }) (sym returned_not)
-      ∙ joins_full k b bad (settled_before k none refl refl) (not_return b bad other) h
+-- a byte that is no CR joins the line, and ends none
+module _ (l : Line) (b : ℕ) (bad : Bool) (none : l.returned ≡ false) (other : eqb b carriage_return ≡ false) where
+  no_end : ends_line l b bad ≡ false
+  no_end = rw (none, and-false (not bad))
+
+  joins_plain : continued_line l b bad ≡ joined_line l b bad
+  unfolding settled_line
+  joins_plain = rw (other, and-false (not bad), none)
+
+  stays_plain : (joined_line l b bad).returned ≡ false
+  unfolding joined_line
+  stays_plain = refl
+
+neither : (x y : Bool) → (x || y) ≡ false → (x ≡ false) × (y ≡ false)
+neither false y e = (refl, e)
+neither true y e = absurd (true≢false e)
+
+-- the first n of them
+plain_run : (l : Line) (n : ℕ) (bs ks : List ℕ) → l.returned ≡ false → n ≤ length bs → n ≤ length ks → has_byte carriage_return (take n bs) ≡ false
+    → received_run l (marked_bytes bs ks) ≡ after_bytes n (received_run (filled l n bs ks) (drop n (marked_bytes bs ks)))
+unfolding marked_bytes
+plain_run l zero bs ks e in_b in_k none =
+    (none_yet l (marked_bytes bs ks)).same
+    ∙ ap (λ (x : Line). after_bytes 0 (received_run x (marked_bytes bs ks))) (filled_none l bs ks e)
+plain_run l (suc n) [] ks e in_b in_k none = absurd (omega arith)
+plain_run l (suc n) (b ∷ bs) [] e in_b in_k none = absurd (omega arith)
+plain_run l (suc n) (b ∷ bs) (k ∷ ks) e in_b in_k none =
+    let bad : Bool = not (eqb k 0) in
+    let rest : List Marked = marked_bytes bs ks in
+    let two = neither (eqb b carriage_return) (has_byte carriage_return (take n bs)) none in
+    let next : Line = joined_line l b bad in
+    let after : Run = received_run (filled next n bs ks) (drop n rest) in
+    one_joined l (marked_by b k) rest refl (no_end l b bad e two.0)
+    ∙ ap (λ (x : Line). one_more (received_run x rest)) (joins_plain l b bad e two.0)
+    ∙ ap one_more (plain_run next n bs ks (stays_plain l b bad e two.0) (omega arith) (omega arith) two.1)
+    ∙ ap (λ (m : ℕ). run_of after.line m after.ended) {y = suc n + after.taken} (omega arith)
+    ∙ ap (λ (x : Line). after_bytes (suc n) (received_run x (drop n rest))) (filled_more l b k n bs ks)
 
 -- the bytes before the first CR have none
 none_before : (b : ℕ) (t : List ℕ) → has_byte b (before_first b t) ≡ false
@@ -169,13 +192,38 @@ none_before b (c ∷ t) = go (eqb c b) refl (none_before b t)
     go true e f = refl
     go false e f = rw (e, f)
 
-pub none_up_to : (b : ℕ) (t : List ℕ) (n : ℕ) → FirstAt b t n → has_byte b (take n t) ≡ false
-none_up_to b t n f = rw f.before (none_before b t)
+-- the cells from a place on, as the code writes them
+cells_put : (l : Line) (s k : ℕ) (ys : List ℕ) → s ≡ min l.len line_limit → length ys ≡ k → s + k ≤ length l.bytes → length l.bytes ≡ line_limit
+    → put_mid s k l.bytes ys ≡ sets l.bytes l.len ys
+cells_put l s k [] start count room cells = rw (← count) (take-append-drop s l.bytes)
+cells_put l s k (y ∷ ys) start count room cells =
+    let same : l.len ≡ s = omega arith in
+    rw (drop-drop k s l.bytes, ← count, same, sets-eq (y ∷ ys) l.bytes s (omega arith)) (sym (append_assoc (take s l.bytes) (y ∷ ys) _))
 
-neither : (x y : Bool) → (x || y) ≡ false → (x ≡ false) × (y ≡ false)
-neither false false e = (refl, refl)
-neither false true e = (refl, e)
-neither true y e = (e, absurd (true≢false e))
+module _ (l : Line) (n : ℕ) (bs ks : List ℕ) (cells : length l.bytes ≡ line_limit) (e : l.returned ≡ false) (equal : length bs ≡ length ks)
+    (first : FirstAt carriage_return bs n) where
+  pub filled_so_far : {s k : ℕ} {written : List ℕ} {any : Bool} → s ≡ min l.len line_limit → k ≡ min n (line_limit - s) → written ≡ take k bs
+      → any ≡ any_mark_set (take n ks)
+      → SoFar l (marked_bytes bs ks)
+      (record {
+        bytes = put_mid s (s + k - s) l.bytes written;
+        len = l.len + k;
+        over = l.over || ltb k n;
+        faulty = l.faulty || any;
+        returned = l.returned;
+      })
+      n
+  filled_so_far {s} {k} {written} {any} start kept w f =
+      let within : n ≤ length bs = first.in_text in
+      let part : s + k - s ≡ k = omega arith in
+      let count : k ≡ min n (line_limit - l.len) = omega arith in
+      let long : length (take k bs) ≡ k = length-take-le k bs (omega arith) in
+      record {
+        within = omega (arith, marked_length bs ks);
+        same =
+            plain_run l n bs ks e within (omega arith) (rw first.before (none_before carriage_return bs))
+            ∙ rw (part, w, f, e, cells_put l s k (take k bs) start long (omega arith) cells, count);
+      }
 
 -- ---- several at once
 
@@ -192,91 +240,9 @@ then_so_far l ms k i t j h g =
           ∙ ap (λ (x : List Marked). after_bytes (i + j) (received_run t x)) (drop-drop j i ms);
     }
 
-marked_within : (bs ks : List ℕ) (i : ℕ) → i ≤ length bs → i ≤ length ks → i ≤ length (marked_bytes bs ks)
-unfolding marked_bytes
-marked_within bs ks zero h g = omega arith
-marked_within [] ks (suc i) h g = absurd (omega arith)
-marked_within (b ∷ bs) [] (suc i) h g = absurd (omega arith)
-marked_within (b ∷ bs) (k ∷ ks) (suc i) h g = let r = marked_within bs ks i (omega arith) (omega arith) in omega arith
-
-abbrev pub filled_held : ℕ → Bool → Bool → Held
-filled_held n over faulty = record { len = n; over = over; faulty = faulty; returned = false }
-
--- one more takes the next cell
-pub filled_more : (l : Line) (bs ks : List ℕ) (cells : List ℕ) (n i : ℕ) (over faulty : Bool)
-    → SoFar l (marked_bytes bs ks) (line_with cells (filled_held (n + i) over faulty)) i
-    → i < length bs
-    → i < length ks
-    → n + i < line_limit
-    → eqb (get_or bs i 0) carriage_return ≡ false
-    → SoFar l (marked_bytes bs ks) (line_with (set cells (n + i) (get_or bs i 0)) (filled_held (n + (i + 1)) over (faulty || not (eqb (get_or ks i 0) 0)))) (i + 1)
-filled_more l bs ks cells n i over faulty h in_b inK room other =
-    let k : Line = line_with cells (filled_held (n + i) over faulty) in
-    let bad : Bool = not (eqb (get_or ks i 0) 0) in
-    let less : i < length (marked_bytes bs ks) = marked_within bs ks (suc i) (omega (arith, in_b)) (omega (arith, inK)) in
-    joins_here l (marked_bytes bs ks) k i h _ (marked_at bs ks i less) (no_end k (get_or bs i 0) bad refl other)
-    (ap (λ (x : ℕ). line_with (set cells (n + i) (get_or bs i 0)) (filled_held x over (faulty || bad))) {y = (n + i) + 1} (omega arith) ∙ fills_next k (get_or bs i 0) bad refl other room)
-    less
-
--- nothing is known anew
-pub as_filled : (l : Line) (ms : List Marked) (cells : List ℕ) (h : Held) → h.returned ≡ false → SoFar l ms (line_with cells h) 0
-    → SoFar l ms (line_with cells (filled_held (h.len + 0) h.over h.faulty)) 0
-as_filled l ms cells h e s =
-    subst (λ (x : Held). SoFar l ms (line_with cells x) 0)
-    (ap (λ (x : Bool). record { len = h.len; over = h.over; faulty = h.faulty; returned = x }) e ∙ ap (λ (n : ℕ). filled_held n h.over h.faulty) (sym (add-zero h.len)))
-    s
-
--- what is known after n bytes that had no cell
-abbrev pub passed_by : Held → ℕ → Bool → Held
-passed_by h n any = record { len = h.len; over = h.over || ltb 0 n; faulty = h.faulty || any; returned = false }
-
-passed_none : (h : Held) → h.returned ≡ false → h ≡ passed_by h 0 false
-passed_none h e =
-    ap (λ (x : Bool). record { len = h.len; over = h.over; faulty = h.faulty; returned = x }) e
-    ∙ rw (or-false h.over, or-false h.faulty)
-
--- one more
-passed_more : (h : Held) (n : ℕ) (bad any : Bool)
-    → passed_by (record { len = h.len; over = true; faulty = h.faulty || bad; returned = false }) n any ≡ passed_by h (suc n) (bad || any)
-passed_more h n bad any = rw (lt-ltb 0 (suc n) (omega arith), or-true h.over, or_assoc h.faulty bad any)
-
-passed : (cells : List ℕ) (h : Held) (n : ℕ) (bs ks : List ℕ) → h.returned ≡ false → line_limit ≤ h.len → n ≤ length bs → n ≤ length ks
-    → has_byte carriage_return (take n bs) ≡ false
-    → received_run (line_with cells h) (marked_bytes bs ks)
-    ≡ after_bytes n (received_run (line_with cells (passed_by h n (any_mark_set (take n ks)))) (drop n (marked_bytes bs ks)))
-unfolding marked_bytes
-passed cells h zero bs ks e full in_b inK none =
-    (none_yet (line_with cells h) (marked_bytes bs ks)).same
-    ∙ ap (λ (x : Held). after_bytes 0 (received_run (line_with cells x) (marked_bytes bs ks))) (passed_none h e)
-passed cells h (suc n) [] ks e full in_b inK none = absurd (omega arith)
-passed cells h (suc n) (b ∷ bs) [] e full in_b inK none = absurd (omega arith)
-passed cells h (suc n) (b ∷ bs) (k ∷ ks) e full in_b inK none =
-    let bad : Bool = not (eqb k 0) in
-    let l : Line = line_with cells h in
-    let rest : List Marked = marked_bytes bs ks in
-    let next : Held = record { len = h.len; over = true; faulty = h.faulty || bad; returned = false } in
-    let any : Bool = any_mark_set (take n ks) in
-    let two = neither (eqb b carriage_return) (has_byte carriage_return (take n bs)) none in
-    let after : Run = received_run (line_with cells (passed_by next n any)) (drop n rest) in
-    one_joined l (marked_by b k) rest refl (no_end l b bad e two.0)
-    ∙ ap (λ (x : Line). one_more (received_run x rest)) (sym (fills_none l b bad e two.0 full))
-    ∙ ap one_more (passed cells next n bs ks refl full (omega arith) (omega arith) two.1)
-    ∙ ap (λ (m : ℕ). run_of after.line m after.ended) {y = suc n + after.taken} (omega arith)
-    ∙ ap (λ (x : Held). after_bytes (suc n) (received_run (line_with cells x) (drop n rest))) (passed_more h n bad any)
-
-pub passed_so_far : (h : Held) (n : ℕ) (bs ks : List ℕ) → h.returned ≡ false → line_limit ≤ h.len → length bs ≡ length ks → FirstAt carriage_return bs n
-    → {any : Bool} → any ≡ any_mark_set (take n ks) → PassedSoFar h (marked_bytes bs ks) (passed_by h n any) n
-passed_so_far h n bs ks e full equal first {any} f cells =
-    record {
-      within = marked_within bs ks n first.in_text (omega (arith, first.in_text, equal));
-      same =
-          passed cells h n bs ks e full first.in_text (omega (arith, first.in_text, equal)) (none_up_to carriage_return bs n first)
-          ∙ rw f;
-    }
-
 -- ---- as many bytes as marks
 
-pub marked_clip : (bs ks : List ℕ) (n : ℕ) → n ≡ length (marked_bytes bs ks) → marked_bytes (take n bs) (take n ks) ≡ marked_bytes bs ks
+pub marked_clip : (bs ks : List ℕ) (n : ℕ) → n ≡ min (length bs) (length ks) → marked_bytes (take n bs) (take n ks) ≡ marked_bytes bs ks
 unfolding marked_bytes
 marked_clip [] ks zero e = refl
 marked_clip [] ks (suc n) e = refl
@@ -285,8 +251,27 @@ marked_clip (b ∷ bs) [] (suc n) e = refl
 marked_clip (b ∷ bs) (k ∷ ks) zero e = absurd (omega arith)
 marked_clip (b ∷ bs) (k ∷ ks) (suc n) e = ap (λ (x : List Marked). marked_by b k ∷ x) (marked_clip bs ks n (omega arith))
 
--- from a place on, by the two buffers
-pub stretch_more : (l : Line) (bs ks : List ℕ) (k t : Line) (i j : ℕ) → SoFar l (marked_bytes bs ks) k i
-    → SoFar k (marked_bytes (take (length bs - i) (drop i bs)) (take (length ks - i) (drop i ks))) t j → SoFar l (marked_bytes bs ks) t (i + j)
-stretch_more l bs ks k t i j h g =
-    then_so_far l (marked_bytes bs ks) k i t j h (rw (rest_is i bs, rest_is i ks, marked_from i bs ks) at g)
+module _ (l : Line) (bs ks : List ℕ) {n : ℕ} (count : n ≡ min (length bs) (length ks)) {k : Line} {i : ℕ} (h : SoFar l (marked_bytes bs ks) k i) where
+  -- a stretch from a place on, by the two buffers
+  pub stretch_more : {t : Line} {j : ℕ} → SoFar k (marked_bytes (take (n - i) (drop i bs)) (take (n - i) (drop i ks))) t j
+      → SoFar l (marked_bytes bs ks) t (i + j)
+  stretch_more {t} {j} g =
+      let left : n - i ≡ min (length (drop i bs)) (length (drop i ks)) = omega (arith, length-drop i bs, length-drop i ks) in
+      then_so_far l (marked_bytes bs ks) k i t j h (rw (marked_clip (drop i bs) (drop i ks) (n - i) left, marked_from i bs ks) at g)
+
+  pub no_more : n ≤ i → record { line = k; taken = i; ended = false } ≡ received_run l (marked_bytes bs ks)
+  no_more f = all_joined l (marked_bytes bs ks) k i h (omega (arith, marked_length bs ks))
+
+  module _ (less : i < n) where
+    less_marked : i < length (marked_bytes bs ks)
+    less_marked = omega (arith, marked_length bs ks)
+
+    -- the next byte ends the line
+    pub next_ends : ends_line k (get_or bs i 0) (not (eqb (get_or ks i 0) 0)) ≡ true
+        → record { line = k; taken = i; ended = true } ≡ received_run l (marked_bytes bs ks)
+    next_ends e = ends_here l (marked_bytes bs ks) k i h _ (marked_at bs ks i less_marked) e
+
+    -- or joins it
+    pub next_joins : {t : Line} → ends_line k (get_or bs i 0) (not (eqb (get_or ks i 0) 0)) ≡ false
+        → t ≡ continued_line k (get_or bs i 0) (not (eqb (get_or ks i 0) 0)) → SoFar l (marked_bytes bs ks) t (i + 1)
+    next_joins e f = joins_here l (marked_bytes bs ks) k i h _ (marked_at bs ks i less_marked) e f less_marked

@@ -3,16 +3,16 @@
 use mathlib.Core.Path.{◌≡◌, refl, sym, ap, ◌∙◌}
 use mathlib.Core.Bool.{Bool, true, false, cond, ◌||◌}
 use mathlib.Core.List.{List, [], ◌∷◌}
-use Prim.Native.Nat.{ℕ, suc, ◌-◌, ◌≤◌}
+use Prim.Native.Nat.{ℕ, suc, ◌≤◌}
 use lib.Dec.{ltb, eqb}
-use lib.ListN.{length, take, drop}
+use lib.ListN.{length, drop}
 use Rattle.classes.specs.Classes.{first_in}
 use Rattle.classes.proofs.Texts.{first_limit, some_in}
 use Rattle.classes.proofs.Words.{controls, breaks, spaces}
 use Rattle.weight.specs.Characters.{space}
 use Rattle.weight.proofs.Allowed.{neither_left, neither_right}
 use Rattle.text.specs.Searching.{FirstAt}
-use Rattle.text.proofs.Searching.{rest_is, first_space_at}
+use Rattle.text.proofs.Searching.{first_space_at}
 use Rattle.line.specs.Judging.{has_control}
 
 pub control_by : (t : List ℕ) {i : ℕ} → i ≡ first_in 64 t → ltb i (length t) ≡ has_control t
@@ -49,9 +49,9 @@ pub place_limit : (t : List ℕ) (s : ℕ) {i : ℕ} → i ≡ first_in s t → 
 place_limit t s first = rw first (first_limit s t)
 
 module _ (t : List ℕ) {i : ℕ} (first : i ≡ first_in 68 t) where
-  module _ {control : Bool} (scanned : control ≡ has_control (take (length t - i) (drop i t))) where
+  module _ {control : Bool} (scanned : control ≡ has_control (drop i t)) where
     pub scanned_all : control ≡ has_control t
-    scanned_all = scanned ∙ ap has_control (rest_is i t ∙ ap (λ (k : ℕ). drop k t) first) ∙ control_after t
+    scanned_all = scanned ∙ ap (λ (k : ℕ). has_control (drop k t)) first ∙ control_after t
 
     pub space_at_break : control ≡ false → FirstAt space t i
     space_at_break e = first_space_at t (first ∙ same_first t (sym scanned_all ∙ e))

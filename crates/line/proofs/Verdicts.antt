@@ -2,6 +2,7 @@
 -- Assumes nothing.
 use mathlib.Core.Path.{◌≡◌, refl, sym, ap, ◌∙◌}
 use mathlib.Core.Bool.{Bool, true, false, cond, not, ◌&&◌, ◌||◌, and-eq-true_iff}
+use Rattle.std.proofs.Common.{Option, Some, None, Result, Ok, Err}
 use mathlib.Core.List.{List, [], ◌∷◌, ◌++◌, map}
 use Prim.Native.Nat.{ℕ, zero, suc, ◌-◌, ◌≤◌, ◌<◌}
 use native.Mathlib.Omega.{arith}
@@ -25,13 +26,10 @@ use Rattle.line.proofs.Kept.{Holds}
 use Rattle.line.proofs.Parameters.{Between, shown_between}
 use Rattle.weight.specs.declared.amount.Tare.{Tare}
 use Rattle.weight.specs.declared.units.WeightUnit.{WeightUnit}
-use Rattle.weight.specs.declared.amount.Typed.{Typed}
-use Rattle.weight.specs.declared.amount.Typed.TheVariants.{Amount, TooLarge, NotTyped}
+use Rattle.weight.specs.declared.amount.NoAmount.{NoAmount}
 use Rattle.weight.specs.declared.changes.Threshold.{Threshold}
 use Rattle.weight.specs.Characters.{space}
 use Rattle.text.specs.Ascii.{ascii, same_text}
-use Rattle.text.specs.declared.unit_texts.UnitRead.{UnitRead}
-use Rattle.text.specs.declared.unit_texts.UnitRead.TheVariants.{Named, Unknown}
 use Rattle.text.specs.UnitTexts.{unit_text}
 use Rattle.text.specs.Reading.{is_decimal}
 use Rattle.text.specs.Typed.{is_typed, preset_resolution, read_typed}
@@ -234,7 +232,7 @@ pub record PresetLine (j : Situation) (f : List Marked) (m : Tare) : Type 0 wher
   pub line : GoodLine f (ascii "TA " ++ parameter_in f)
   pub parts : parameter_in f ≡ before_space (parameter_in f) ++ (space ∷ unit_text j.resolution.unit)
   pub unit : after_space (parameter_in f) ≡ unit_text j.resolution.unit
-  pub number : preset_from j (before_space (parameter_in f)) ≡ Amount m
+  pub number : preset_from j (before_space (parameter_in f)) ≡ Ok m
   pub within : m.0 ≤ j.capacity
   pub free : j.waiting ≡ false
 
@@ -242,8 +240,8 @@ pub record PresetLine (j : Situation) (f : List Marked) (m : Tare) : Type 0 wher
 pub record ChangeLine (j : Situation) (f : List Marked) (t : Threshold) : Type 0 where
   pub line : GoodLine f (ascii "SR " ++ parameter_in f)
   pub unit : after_space (parameter_in f) ≡ unit_text j.resolution.unit
-  pub number : read_typed j.resolution.unit (before_space (parameter_in f)) ≡ Amount (record { 0 = t.0 })
-  pub typed : typed_in j (parameter_in f) ≡ Amount (record { 0 = t.0 })
+  pub number : read_typed j.resolution.unit (before_space (parameter_in f)) ≡ Ok (record { 0 = t.0 })
+  pub typed : typed_in j (parameter_in f) ≡ Ok (record { 0 = t.0 })
   pub least : 1 ≤ t.0
   pub within : t.0 ≤ j.capacity
   pub free : j.waiting ≡ false
@@ -251,7 +249,7 @@ pub record ChangeLine (j : Situation) (f : List Marked) (t : Threshold) : Type 0
 -- a line judged to M21 with the code of u
 pub record SelectLine (j : Situation) (f : List Marked) (u : WeightUnit) : Type 0 where
   pub line : GoodLine f (ascii "M21 " ++ parameter_in f)
-  pub unit : unit_in (parameter_in f) ≡ Named u
+  pub unit : unit_in (parameter_in f) ≡ Some u
   pub free : j.waiting ≡ false
 
 -- a line judged to D with a text of n bytes, from its fourth on
@@ -372,24 +370,22 @@ showing j c n t right own =
     record { is = is; spaced = both.0; quotes = shown_between (after_space t) both.1; count = by.1 }
 
 -- a number that the capacity allows
-amount_by : (capacity : ℕ) (n : Typed) → preset_of capacity n ≡ true → (n ≡ Amount (amount_in n)) × ((amount_in n).0 ≤ capacity)
-amount_by capacity (Amount m) e = (refl, leb-true m.0 capacity e)
-amount_by capacity TooLarge e = never (cc)
-amount_by capacity NotTyped e = never (cc)
+amount_by : (capacity : ℕ) (n : Result Tare NoAmount) → preset_of capacity n ≡ true → (n ≡ Ok (amount_in n)) × ((amount_in n).0 ≤ capacity)
+amount_by capacity (Ok m) e = (refl, leb-true m.0 capacity e)
+amount_by capacity (Err r) e = never (cc)
 
 -- and that is not 0
-threshold_by : (capacity : ℕ) (n : Typed) → threshold_of capacity n ≡ true
-    → (n ≡ Amount (amount_in n)) × (1 ≤ (amount_in n).0) × ((amount_in n).0 ≤ capacity)
-threshold_by capacity (Amount m) e =
+threshold_by : (capacity : ℕ) (n : Result Tare NoAmount) → threshold_of capacity n ≡ true
+    → (n ≡ Ok (amount_in n)) × (1 ≤ (amount_in n).0) × ((amount_in n).0 ≤ capacity)
+threshold_by capacity (Ok m) e =
     let both = (and-eq-true_iff (leb 1 m.0) (leb m.0 capacity)).0 e in
     (refl, leb-true 1 m.0 both.0, leb-true m.0 capacity both.1)
-threshold_by capacity TooLarge e = never (cc)
-threshold_by capacity NotTyped e = never (cc)
+threshold_by capacity (Err r) e = never (cc)
 
 -- a code that is known
-coded_by : (n : UnitRead) → is_coded n ≡ true → n ≡ Named (unit_of n)
-coded_by (Named u) e = refl
-coded_by Unknown e = never (cc)
+coded_by : (n : Option WeightUnit) → is_coded n ≡ true → n ≡ Some (unit_of n)
+coded_by (Some u) e = refl
+coded_by None e = never (cc)
 
 -- a parameter with a number: number, space, the unit in force
 record Numbered (u : WeightUnit) (p : List ℕ) : Type 0 where
@@ -481,7 +477,7 @@ module _ (j : Situation) (f : List Marked) where
       not-false (is_preset j (parameter_in f)) (neither_left (not (is_preset j (parameter_in f))) false
       (neither_left (not (is_preset j (parameter_in f)) || false) false (rw (is, both.1) at row.right))) in
       let amount = amount_by j.capacity (preset_in j (parameter_in f)) right in
-      let read : preset_in j (parameter_in f) ≡ Amount m = amount.0 ∙ ap Amount by.1 in
+      let read : preset_in j (parameter_in f) ≡ Ok m = amount.0 ∙ ap Ok by.1 in
       let n : Numbered j.resolution.unit (parameter_in f) = numbered j.resolution.unit (parameter_in f) (preset_of_lem (preset_resolution j.capacity j.fine j.resolution (number_in j.resolution.unit (parameter_in f))) _ read).typed in
       record {
         line = record { bytes = name_then (map byte_in f) b.a_name both.1 ∙ ap (λ (x : ℕ). name_of x ++ (space ∷ parameter_in f)) is; good = b.good };
@@ -507,7 +503,7 @@ module _ (j : Situation) (f : List Marked) where
       not-false (is_threshold j (parameter_in f)) (neither_left (not (is_threshold j (parameter_in f))) false (rw (is, both.1) at row.right)) in
       let amount = threshold_by j.capacity (typed_in j (parameter_in f)) right in
       let same : (amount_in (typed_in j (parameter_in f))).0 ≡ t.0 = ap (λ (x : Threshold). x.0) by.1 in
-      let typed : typed_in j (parameter_in f) ≡ Amount (record { 0 = t.0 }) = amount.0 ∙ ap (λ (x : Threshold). Amount (record { 0 = x.0 })) by.1 in
+      let typed : typed_in j (parameter_in f) ≡ Ok (record { 0 = t.0 }) = amount.0 ∙ ap (λ (x : Threshold). Ok (record { 0 = x.0 })) by.1 in
       let n : Numbered j.resolution.unit (parameter_in f) = numbered j.resolution.unit (parameter_in f) (amount_is_typed j.resolution.unit _ typed) in
       record {
         line = record { bytes = name_then (map byte_in f) b.a_name both.1 ∙ ap (λ (x : ℕ). name_of x ++ (space ∷ parameter_in f)) is; good = b.good };
@@ -534,7 +530,7 @@ module _ (j : Situation) (f : List Marked) where
       let right : is_coded (unit_in (parameter_in f)) ≡ true = not-false (is_coded (unit_in (parameter_in f))) (rw (is, both.1) at row.right) in
       record {
         line = record { bytes = name_then (map byte_in f) b.a_name both.1 ∙ ap (λ (x : ℕ). name_of x ++ (space ∷ parameter_in f)) is; good = b.good };
-        unit = coded_by (unit_in (parameter_in f)) right ∙ ap Named by.1;
+        unit = coded_by (unit_in (parameter_in f)) right ∙ ap Some by.1;
         free = row.free;
       }
 

@@ -1,7 +1,7 @@
 -- Document 01, "Receiving": the table of a finished line, its rows in the paper's order, and the parameters of D, TA, SR and M21
 -- (document 02, No. 1, No. 3, No. 5 and No. 7).
 -- Assumes nothing.
-use Rattle.std.specs.Prelude.{ℕ, ◌-◌, Bool, true, false, cond, not, ◌&&◌, ◌||◌, List, [], ◌∷◌, leb, ltb, eqb, length, get_or, take, drop}
+use Rattle.std.specs.Prelude.{ℕ, ◌-◌, Bool, true, false, cond, not, ◌&&◌, ◌||◌, Option, Some, None, Result, Ok, Err, List, [], ◌∷◌, leb, ltb, eqb, length, get_or, take, drop}
 use Rattle.answer.specs.declared.answer.Error.TheVariants.{Syntax, Transmission, Logical}
 use Rattle.answer.specs.Commands.{names, place_of, is_d, is_m21, is_reset, is_sr, is_ta, takes_parameters, needs_sample}
 use Rattle.line.specs.declared.receive.Line.{Line}
@@ -10,17 +10,14 @@ use Rattle.line.specs.declared.judge.Verdict.{Verdict}
 use Rattle.line.specs.declared.judge.Verdict.TheVariants.{Erroneous, Reset, Busy, Wrong, NoSample, Run, Preset, Change, Show, Select}
 use Rattle.line.specs.Receiving.{content_of}
 use Rattle.weight.specs.declared.amount.Tare.{Tare}
-use Rattle.weight.specs.declared.amount.Typed.{Typed}
+use Rattle.weight.specs.declared.amount.NoAmount.{NoAmount}
 use Rattle.weight.specs.declared.changes.Threshold.{Threshold}
 use Rattle.weight.specs.declared.units.WeightUnit.{WeightUnit}
 use Rattle.weight.specs.declared.units.WeightUnit.TheVariants.{G}
-use Rattle.weight.specs.declared.amount.Typed.TheVariants.{Amount, TooLarge, NotTyped}
 use Rattle.weight.specs.Characters.{quote}
 use Rattle.text.specs.Ascii.{ascii, same_text}
 use Rattle.text.specs.Printable.{is_printable}
 use Rattle.text.specs.Searching.{before_space, after_space, has_space}
-use Rattle.text.specs.declared.unit_texts.UnitRead.{UnitRead}
-use Rattle.text.specs.declared.unit_texts.UnitRead.TheVariants.{Named, Unknown}
 use Rattle.text.specs.UnitTexts.{unit_text, unit_coded}
 use Rattle.text.specs.Typed.{preset_resolution, read_preset, read_typed}
 
@@ -51,23 +48,20 @@ is_quoted p =
     && is_shown (between_quotes p)
 
 -- the micrograms of a typed number, where it is one that C allows
-abbrev pub preset_of : ℕ → Typed → Bool
-preset_of capacity (Amount m) = leb m.0 capacity
-preset_of capacity TooLarge = false
-preset_of capacity NotTyped = false
+abbrev pub preset_of : ℕ → Result Tare NoAmount → Bool
+preset_of capacity (Ok m) = leb m.0 capacity
+preset_of capacity (Err e) = false
 
-abbrev pub amount_in : Typed → Tare
-amount_in (Amount m) = m
-amount_in TooLarge = record { 0 = 0 }
-amount_in NotTyped = record { 0 = 0 }
+abbrev pub amount_in : Result Tare NoAmount → Tare
+amount_in (Ok m) = m
+amount_in (Err e) = record { 0 = 0 }
 
 -- the same as a threshold, which is not 0
-abbrev pub threshold_of : ℕ → Typed → Bool
-threshold_of capacity (Amount m) = leb 1 m.0 && leb m.0 capacity
-threshold_of capacity TooLarge = false
-threshold_of capacity NotTyped = false
+abbrev pub threshold_of : ℕ → Result Tare NoAmount → Bool
+threshold_of capacity (Ok m) = leb 1 m.0 && leb m.0 capacity
+threshold_of capacity (Err e) = false
 
-abbrev pub threshold_in : Typed → Threshold
+abbrev pub threshold_in : Result Tare NoAmount → Threshold
 threshold_in n = record { 0 = (amount_in n).0 }
 
 -- number, space, the unit in force: the number's text, and no byte where the rest is not so
@@ -75,14 +69,14 @@ unfoldable pub number_in : WeightUnit → List ℕ → List ℕ
 number_in u p = cond (has_space p && same_text (after_space p) (unit_text u)) (before_space p) []
 
 -- of TA: to the display step and the microgram (document 02, No. 3), above F to the coarse step, if F is below C (No. 7)
-abbrev pub preset_from : Situation → List ℕ → Typed
+abbrev pub preset_from : Situation → List ℕ → Result Tare NoAmount
 preset_from j t = read_preset (preset_resolution j.capacity j.fine j.resolution t) t
 
-unfoldable pub preset_in : Situation → List ℕ → Typed
+unfoldable pub preset_in : Situation → List ℕ → Result Tare NoAmount
 preset_in j p = preset_from j (number_in j.resolution.unit p)
 
 -- of SR: to the microgram
-unfoldable pub typed_in : Situation → List ℕ → Typed
+unfoldable pub typed_in : Situation → List ℕ → Result Tare NoAmount
 typed_in j p = read_typed j.resolution.unit (number_in j.resolution.unit p)
 
 -- of TA, not above C
@@ -94,16 +88,16 @@ abbrev pub is_threshold : Situation → List ℕ → Bool
 is_threshold j p = threshold_of j.capacity (typed_in j p)
 
 -- of M21: 0, which stands for the host unit, space, a unit's code
-unfoldable pub unit_in : List ℕ → UnitRead
-unit_in p = cond (same_text (take 2 p) (ascii "0 ")) (unit_coded (drop 2 p)) Unknown
+unfoldable pub unit_in : List ℕ → Option WeightUnit
+unit_in p = cond (same_text (take 2 p) (ascii "0 ")) (unit_coded (drop 2 p)) None
 
-abbrev pub is_coded : UnitRead → Bool
-is_coded (Named u) = true
-is_coded Unknown = false
+abbrev pub is_coded : Option WeightUnit → Bool
+is_coded (Some u) = true
+is_coded None = false
 
-abbrev pub unit_of : UnitRead → WeightUnit
-unit_of (Named u) = u
-unit_of Unknown = G
+abbrev pub unit_of : Option WeightUnit → WeightUnit
+unit_of (Some u) = u
+unit_of None = G
 
 -- a name that takes parameters, with wrong ones; TA, SR and M21 may stand alone
 unfoldable pub is_wrong : Situation → ℕ → List ℕ → Bool

@@ -6,36 +6,22 @@ use Rattle.line.specs.declared.judge.Situation.{Situation}
 use Rattle.line.specs.declared.judge.Verdict.{Verdict}
 use Rattle.line.specs.declared.judge.Verdict.TheVariants.{Wrong, NoSample, Preset, Change, Show, Select}
 use Rattle.line.specs.Judging.{is_quoted, preset_in, typed_in, preset_of, amount_in, threshold_of, threshold_in, unit_in, is_coded, unit_of, is_wrong, table, own_rule}
-use Rattle.text.specs.declared.unit_texts.UnitRead.{UnitRead}
-use Rattle.weight.specs.declared.amount.Typed.{Typed}
 
 -- rows 6 to 8 of D with the parameter p
 unfoldable pub show_rule : List ℕ → Verdict
 show_rule p = cond (is_quoted p) (Show (length p - 2)) (Wrong place_d)
 
--- rows 6 to 8 of TA with a number as read
-unfoldable pub amount_rule : ℕ → Typed → Verdict
-amount_rule capacity n = cond (preset_of capacity n) (Preset (amount_in n)) (Wrong place_ta)
-
 -- rows 6 to 8 of TA with the parameter p
 unfoldable pub preset_rule : Situation → List ℕ → Verdict
-preset_rule j p = amount_rule j.capacity (preset_in j p)
-
--- rows 6 to 8 of SR with a number as read
-unfoldable pub threshold_rule : ℕ → Typed → Verdict
-threshold_rule capacity n = cond (threshold_of capacity n) (Change (threshold_in n)) (Wrong place_sr)
+preset_rule j p = cond (preset_of j.capacity (preset_in j p)) (Preset (amount_in (preset_in j p))) (Wrong place_ta)
 
 -- rows 6 to 8 of SR with the parameter p
 unfoldable pub change_rule : Situation → List ℕ → Verdict
-change_rule j p = threshold_rule j.capacity (typed_in j p)
-
--- rows 6 to 8 of M21 with a unit as read
-unfoldable pub code_rule : UnitRead → Verdict
-code_rule n = cond (is_coded n) (Select (unit_of n)) (Wrong place_m21)
+change_rule j p = cond (threshold_of j.capacity (typed_in j p)) (Change (threshold_in (typed_in j p))) (Wrong place_sr)
 
 -- rows 6 to 8 of M21 with the parameter p
 unfoldable pub select_rule : List ℕ → Verdict
-select_rule p = code_rule (unit_in p)
+select_rule p = cond (is_coded (unit_in p)) (Select (unit_of (unit_in p))) (Wrong place_m21)
 
 -- rows 6 to 8
 unfoldable pub last_rows : Situation → ℕ → List ℕ → Verdict

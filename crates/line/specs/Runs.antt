@@ -1,7 +1,6 @@
 -- Document 02, No. 2: bytes that are received together, taken singly as far as none ends the line.
 -- Assumes nothing.
 use Rattle.std.specs.Prelude.{ℕ, suc, ◌+◌, ◌≤◌, ◌≡◌, Bool, true, false, not, ◌||◌, List, [], ◌∷◌, eqb, length, drop}
-use Rattle.line.specs.declared.receive.Held.{Held}
 use Rattle.line.specs.declared.receive.Line.{Line}
 use Rattle.line.specs.declared.run.Run.{Run}
 use Rattle.line.specs.Receiving.{received_byte}
@@ -31,18 +30,7 @@ received_run l (m ∷ ms) =
     let r = received_byte l m.byte m.faulty in
     chosen_run r.ended (record { line = l; taken = 0; ended = true }) (one_more (received_run r.line ms))
 
--- ---- a line is its cells and what else is known of it
-
-abbrev pub held_of : Line → Held
-held_of l = record { len = l.len; over = l.over; faulty = l.faulty; returned = l.returned }
-
-abbrev pub line_with : List ℕ → Held → Line
-line_with cells h = record { bytes = cells; len = h.len; over = h.over; faulty = h.faulty; returned = h.returned }
-
 -- ---- what the parts of the code promise each other
-
-abbrev pub run_with : List ℕ → Held → ℕ → Bool → Run
-run_with cells h taken ended = record { line = line_with cells h; taken = taken; ended = ended }
 
 -- one of the marks is not 0, and so is that of a faulty byte
 abbrev pub any_mark_set : List ℕ → Bool
@@ -57,7 +45,3 @@ after_bytes n r = record { line = r.line; taken = n + r.taken; ended = r.ended }
 pub record SoFar (l : Line) (ms : List Marked) (k : Line) (i : ℕ) : Type 0 where
   pub within : i ≤ length ms
   pub same : received_run l ms ≡ after_bytes i (received_run k (drop i ms))
-
--- the same, whatever the cells hold, which stay
-abbrev pub PassedSoFar : Held → List Marked → Held → ℕ → Type 0
-PassedSoFar h ms k i = (cells : List ℕ) → SoFar (line_with cells h) ms (line_with cells k) i

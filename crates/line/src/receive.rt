@@ -1,12 +1,12 @@
 // A byte joins the line being received.
 ghost use Rattle.std.specs.Prelude.{◌≡◌};
-ghost use Rattle.line.specs.Receiving.{cleared_line, continued_line, ends_after, with_return, received_byte};
-ghost use Rattle.line.specs.Runs.{held_of, line_with};
+ghost use Rattle.line.specs.Receiving.{cleared_line, joined_line, continued_line, ends_line, received_byte};
 
 // The bytes of the line so far, and what is known of those that had no place.
-#[derive(Clone, Copy)]
+#[derive(Clone, Copy, PartialEq)]
 pub struct Line {
     // The first `len` cells are the line's bytes, at most 64.
+    // Stays an array with a length: memory is fixed, and a state whose length is above 64 is answered by refusal 2 (`is_state_allowed`).
     pub bytes: [u8; 64],
     pub len: u8,
     // A byte came after the 64th.
@@ -17,15 +17,17 @@ pub struct Line {
     pub returned: bool,
 }
 
-#[derive(Clone, Copy)]
+#[derive(Clone, Copy, PartialEq)]
 pub struct Received {
-    // The finished line if it ended, and else the line so far.
+    // The finished line if it ended, and else the line so far. Stays beside a flag: either way the line is kept.
     pub line: Line,
     pub ended: bool,
 }
 
 // The bytes that a line holds at most.
 pub const LINE_LIMIT: u8 = 64;
+
+pub(crate) const CELLS: usize = LINE_LIMIT as usize;
 
 pub(crate) const CARRIAGE_RETURN: u8 = 13;
 
@@ -35,114 +37,64 @@ const LINE_FEED: u8 = 10;
 pub fn cleared(line: Line) -> Line
     ensures { result ≡ cleared_line line }
 {
-    let bytes = line.bytes;
     Line {
-        bytes,
         len: 0,
         over: false,
         faulty: false,
         returned: false,
+        ..line
     }
 }
 
-fn with_return(line: Line, returned: bool) -> Line
-    ensures { result ≡ with_return line returned }
-{
-    let bytes = line.bytes;
-    Line {
-        bytes,
-        len: line.len,
-        over: line.over,
-        faulty: line.faulty,
-        returned,
+impl Line {
+    // A good LF after a good CR ends the line.
+    pub(crate) fn ends(&self, byte: u8, faulty: bool) -> bool
+        ensures { result ≡ ends_line self.now byte faulty }
+    {
+        !faulty & (self.returned & (byte == LINE_FEED))
     }
-}
 
-// What is known of a line beside its cells.
-#[derive(Clone, Copy)]
-pub(crate) struct Held {
-    pub(crate) len: u8,
-    pub(crate) over: bool,
-    pub(crate) faulty: bool,
-    pub(crate) returned: bool,
-}
-
-pub(crate) fn held_of(line: Line) -> Held
-    ensures { result ≡ held_of line }
-{
-    Held {
-        len: line.len,
-        over: line.over,
-        faulty: line.faulty,
-        returned: line.returned,
-    }
-}
-
-// A good LF after a good CR ends the line.
-pub(crate) fn ends(returned: bool, byte: u8, faulty: bool) -> bool
-    ensures { result ≡ ends_after returned byte faulty }
-{
-    !faulty & (returned & (byte == LINE_FEED))
-}
-
-// A byte that does not end the line: a CR that was kept apart and then the byte take the next cells, or none where all are taken. A good
-// CR is kept apart in its turn. The cells are lent, so that many bytes copy them once.
-pub(crate) fn join(bytes: &mut [u8; 64], held: Held, byte: u8, faulty: bool) -> Held
-    ensures { line_with bytes.new result ≡ continued_line (line_with bytes.old held) byte faulty }
-{
-    let returns = !faulty & (byte == CARRIAGE_RETURN);
-    let mut len = held.len;
-    let mut over = held.over;
-    let any_faulty = held.faulty | faulty;
-    if held.returned {
-        if LINE_LIMIT <= len {
-            over = true;
+    // The byte takes the next cell, or none where all are taken.
+    #[tactic(auto, unfolding(crate::specs::Receiving::joined_line))]
+    fn add(&mut self, byte: u8, faulty: bool)
+        ensures { self.new ≡ joined_line self.old byte faulty }
+    {
+        if self.len < LINE_LIMIT {
+            self.bytes[self.len as usize] = byte;
+            self.len += 1;
         } else {
-            bytes[len as usize] = CARRIAGE_RETURN;
-            len += 1;
+            self.over = true;
+        }
+        self.faulty |= faulty;
+        self.returned = false;
+    }
+
+    // A byte that does not end the line: a CR that was kept apart and then the byte join it. A good CR is kept apart in its turn.
+    // The line is lent, so that many bytes copy it once.
+    #[tactic(auto, unfolding(crate::specs::Receiving::settled_line))]
+    pub(crate) fn join(&mut self, byte: u8, faulty: bool)
+        ensures { self.new ≡ continued_line self.old byte faulty }
+    {
+        if self.returned {
+            self.add(CARRIAGE_RETURN, false);
+        }
+        if !faulty & (byte == CARRIAGE_RETURN) {
+            self.returned = true;
+        } else {
+            self.add(byte, faulty);
         }
     }
-    if !returns {
-        if LINE_LIMIT <= len {
-            over = true;
-        } else {
-            bytes[len as usize] = byte;
-            len += 1;
-        }
-    }
-    Held {
-        len,
-        over,
-        faulty: any_faulty,
-        returned: returns,
-    }
 }
 
-fn continued(line: Line, byte: u8, faulty: bool) -> Line
-    ensures { result ≡ continued_line line byte faulty }
-{
-    let mut bytes = line.bytes;
-    let held = join(&mut bytes, held_of(line), byte, faulty);
-    Line {
-        bytes,
-        len: held.len,
-        over: held.over,
-        faulty: held.faulty,
-        returned: held.returned,
-    }
-}
-
-pub fn receive_byte(line: Line, byte: u8, faulty: bool) -> Received
+#[tactic(auto, unfolding(crate::specs::Receiving::received_byte))]
+pub fn receive_byte(mut line: Line, byte: u8, faulty: bool) -> Received
     ensures { result ≡ received_byte line byte faulty }
 {
-    if ends(line.returned, byte, faulty) {
-        return Received {
-            ended: true,
-            line: with_return(line, false),
-        };
+    let ended = line.ends(byte, faulty);
+    if ended {
+        line.returned = false;
+    } else {
+        line.join(byte, faulty);
     }
-    Received {
-        ended: false,
-        line: continued(line, byte, faulty),
-    }
+    Received { line, ended }
 }

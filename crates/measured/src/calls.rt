@@ -1,9 +1,8 @@
 // Calls of the module, by records of eight bytes: what is called, the mark, the room lent (low byte first), and four bytes with the
-// received byte, the load or the place of a profile.
+// received byte, the load, the place of a profile or the size of a whole buffer.
 ghost use Rattle.std.specs.Prelude.{◌≤◌};
 
 use crate::profile::profile_at;
-use crate::record::joined;
 use crate::sums::{Sums, with_bytes, with_number};
 use device::{Called, power_on, take_byte, take_sample};
 use model::{Profile, Refusal, State, start_state};
@@ -12,111 +11,76 @@ use weight::Load;
 
 pub const RECORD: usize = 8;
 
-const BYTE: u8 = 0;
-
-const SAMPLE: u8 = 1;
-
-const POWER_ON: u8 = 2;
-
-// The profile of the calls that follow.
-pub const PROFILE: u8 = 3;
-
 #[derive(Clone, Copy)]
-pub struct Order {
-    pub kind: u8,
-    pub mark: bool,
-    pub room: usize,
-    pub byte: u8,
-    pub number: u32,
+pub enum Order {
+    // A byte, and whether it is marked faulty.
+    Byte(u8, bool),
+    // A load, and whether it is marked stable.
+    Sample(Load, bool),
+    PowerOn,
+    // The profile of the calls that follow.
+    Profile(u32),
+    // Of `measured_buffers`; a power-on here.
+    Buffer(u32),
 }
 
-fn at_most(most: usize, n: usize) -> usize
+// The numbers of the kinds are those of tests/benchmark, which makes the records.
+pub fn order_of(record: &[u8; RECORD]) -> Order {
+    let [kind, mark, _, _, a, b, c, d] = *record;
+    let marked = mark != 0;
+    let number = u32::from_le_bytes([a, b, c, d]);
+    match kind {
+        0 => Order::Byte(a, marked),
+        1 => Order::Sample(Load(number.cast_signed()), marked),
+        3 => Order::Profile(number),
+        4 => Order::Buffer(number),
+        _ => Order::PowerOn,
+    }
+}
+
+// No more than there is.
+pub fn room_of(record: &[u8; RECORD], most: usize) -> usize
     ensures { result ≤ most }
 {
-    if most < n {
-        return most;
-    }
-    n
-}
-
-// A record, with no more room than there is.
-pub fn order_at(script: &[u8], at: usize, most: usize) -> Order
-    ensures { result.room ≤ most }
-{
-    let record = part(script, at, RECORD);
-    if record.len() < RECORD {
-        return Order {
-            kind: POWER_ON,
-            mark: false,
-            room: 0,
-            byte: 0,
-            number: 0,
-        };
-    }
-    let room = at_most(most, joined(record[2], record[3], 0, 0) as usize);
-    Order {
-        kind: record[0],
-        mark: record[1] != 0,
-        room,
-        byte: record[4],
-        number: joined(record[4], record[5], record[6], record[7]),
-    }
-}
-
-// Two's complement.
-fn load_of(n: u32) -> Load {
-    if n <= 2_147_483_647 {
-        return Load(n as i32);
-    }
-    Load(!((4_294_967_295 - n) as i32))
+    most.min(usize::from(u16::from_le_bytes([record[2], record[3]])))
 }
 
 pub fn called(profile: Profile, state: State, order: Order, lent: &mut [u8]) -> Called {
-    if order.kind == BYTE {
-        return take_byte(profile, state, order.byte, order.mark, lent);
+    match order {
+        Order::Byte(byte, faulty) => take_byte(profile, state, byte, faulty, lent),
+        Order::Sample(load, stable) => take_sample(profile, state, load, stable, lent),
+        Order::PowerOn | Order::Profile(_) | Order::Buffer(_) => power_on(profile, state, lent),
     }
-    if order.kind == SAMPLE {
-        return take_sample(profile, state, load_of(order.number), order.mark, lent);
-    }
-    power_on(profile, state, lent)
 }
 
-pub fn with_call(sums: Sums, refusal: Refusal, count: usize) -> Sums {
-    let number = match refusal {
-        Refusal::None => 0,
-        Refusal::Profile => 1,
-        Refusal::State => 2,
-        Refusal::Room => 3,
-        Refusal::Lengths => 5,
+// The refusal number, 0 for none, and the count.
+pub fn with_call(sums: Sums, outcome: Result<usize, Refusal>) -> Sums {
+    let number = match outcome {
+        Ok(_) => 0,
+        Err(refusal) => refusal as u64,
     };
-    with_number(with_number(sums, number), count as u64)
+    with_number(with_number(sums, number), outcome.unwrap_or(0) as u64)
 }
 
-pub fn added(sums: Sums, refusal: Refusal, count: usize, out: &[u8]) -> Sums {
-    with_bytes(with_call(sums, refusal, count), part(out, 0, count))
+pub fn added(sums: Sums, outcome: Result<usize, Refusal>, out: &[u8]) -> Sums {
+    with_bytes(with_call(sums, outcome), part(out, 0, outcome.unwrap_or(0)))
 }
 
 // The checksum of every refusal number, count and answer.
 pub fn proved_calls(profiles: &[u8], script: &[u8], out: &mut [u8]) -> u64 {
     let mut profile = profile_at(profiles, 0);
     let mut state = start_state();
-    let mut sums = Sums { low: 0, high: 0 };
-    let count = script.len() / RECORD;
-    let start = 0;
-    let mut k = 0;
-    while k < count {
-        let order = order_at(script, k * RECORD, out.len());
-        let room = order.room;
-        k += 1;
-        if order.kind == PROFILE {
-            profile = profile_at(profiles, order.number);
-            continue;
+    let mut sums = Sums::default();
+    for record in script.as_chunks::<RECORD>().0 {
+        let room = room_of(record, out.len());
+        match order_of(record) {
+            Order::Profile(n) => profile = profile_at(profiles, n),
+            order => {
+                let returned = called(profile, state, order, &mut out[..room]);
+                state = returned.state;
+                sums = added(sums, returned.outcome, out);
+            }
         }
-        let returned = called(profile, state, order, &mut out[start..room]);
-        let next = returned.state;
-        let refusal = returned.refusal;
-        state = next;
-        sums = added(sums, refusal, returned.count, out);
     }
     sums.high
 }

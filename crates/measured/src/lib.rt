@@ -6,12 +6,10 @@
 mod calls;
 mod lines;
 mod profile;
-mod record;
 mod sums;
 
 // For the loops of `measured_buffers`, which has whole buffers too, and of `measured_fields`, and for the exports of `measured_c`.
-pub use calls::{Order, PROFILE, RECORD, added, called, order_at, proved_calls, with_call};
+pub use calls::{Order, RECORD, added, called, order_of, proved_calls, room_of, with_call};
 pub use lines::{proved_lines, proved_rewritten};
 pub use profile::profile_at;
-pub use record::joined;
 pub use sums::{Sums, with_bytes, with_number};

@@ -7,19 +7,17 @@
 
 use device::{BytesTaken, take_bytes};
 use measured::{
-    PROFILE, RECORD, Sums, added, called, order_at, profile_at, with_bytes, with_call, with_number,
+    Order, RECORD, Sums, added, called, order_of, profile_at, room_of, with_bytes, with_call,
+    with_number,
 };
 use model::start_state;
-use std::num::wrapping_add_u64;
 use text::part;
 
-const BUFFER: u8 = 4;
-
 fn added_taken(sums: Sums, returned: BytesTaken, out: &[u8]) -> Sums {
-    let refusal = returned.refusal;
-    let count = returned.count;
-    let taken = with_number(with_call(sums, refusal, count), returned.taken as u64);
-    with_bytes(taken, part(out, 0, count))
+    let count = returned.outcome.map(|done| done.count);
+    let taken = returned.outcome.map_or(0, |done| done.taken);
+    let counted = with_number(with_call(sums, count), taken as u64);
+    with_bytes(counted, part(out, 0, count.unwrap_or(0)))
 }
 
 // The checksum of every refusal number, count and answer, and of the bytes that a whole-buffer call took.
@@ -32,40 +30,26 @@ pub fn proved_buffers(
 ) -> u64 {
     let mut profile = profile_at(profiles, 0);
     let mut state = start_state();
-    let mut sums = Sums { low: 0, high: 0 };
-    let count = script.len() / RECORD;
-    let start = 0;
+    let mut sums = Sums::default();
     let mut at = 0u64;
-    let mut k = 0;
-    while k < count {
-        let order = order_at(script, k * RECORD, out.len());
-        let room = order.room;
-        k += 1;
-        if order.kind == PROFILE {
-            profile = profile_at(profiles, order.number);
-            continue;
+    for record in script.as_chunks::<RECORD>().0 {
+        let room = room_of(record, out.len());
+        match order_of(record) {
+            Order::Profile(n) => profile = profile_at(profiles, n),
+            Order::Buffer(size) => {
+                let given = part(bytes, at as usize, size as usize);
+                let marked = part(marks, at as usize, size as usize);
+                at = at.wrapping_add(u64::from(size));
+                let returned = take_bytes(profile, state, given, marked, &mut out[..room]);
+                state = returned.state;
+                sums = added_taken(sums, returned, out);
+            }
+            order => {
+                let returned = called(profile, state, order, &mut out[..room]);
+                state = returned.state;
+                sums = added(sums, returned.outcome, out);
+            }
         }
-        if order.kind == BUFFER {
-            let place = at as usize;
-            let size = order.number as usize;
-            at = wrapping_add_u64(at, order.number as u64);
-            let returned = take_bytes(
-                profile,
-                state,
-                part(bytes, place, size),
-                part(marks, place, size),
-                &mut out[start..room],
-            );
-            let next = returned.state;
-            state = next;
-            sums = added_taken(sums, returned, out);
-            continue;
-        }
-        let returned = called(profile, state, order, &mut out[start..room]);
-        let next = returned.state;
-        let refusal = returned.refusal;
-        state = next;
-        sums = added(sums, refusal, returned.count, out);
     }
     sums.high
 }

@@ -1,9 +1,7 @@
-mod Changes
 pub mod Conjunctions
 pub mod InForce
 pub mod Nets
 pub mod ProfileFacts
 mod Sizes
 pub mod StateFacts
-mod StateTested
 mod UnitsTested

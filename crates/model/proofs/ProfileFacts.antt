@@ -6,7 +6,7 @@ use mathlib.Core.List.{List, [], ◌∷◌}
 use Prim.Native.Nat.{ℕ, zero, suc, ◌≤◌, ◌<◌}
 use native.Mathlib.Nat.{le_of_suc-le-suc, not-suc-le-zero}
 use native.Mathlib.Omega.{arith}
-use borrow.Author.Tests.{leb-true, le-leb}
+use borrow.Author.Tests.{leb-true}
 use lib.Dec.{leb}
 use lib.ListN.{length, get_or, take, length-take}
 use Rattle.text.specs.Printable.{is_printable}
@@ -16,10 +16,8 @@ use Rattle.weight.specs.Ranges.{ranged}
 use Rattle.weight.specs.Rounding.{allowed_resolution}
 use Rattle.weight.specs.Units.{all_units, unit_place}
 use Rattle.weight.proofs.Allowed.{both_left, both_right}
-use Rattle.model.specs.declared.profile.Text20.{Text20}
-use Rattle.model.specs.declared.profile.Text40.{Text40}
 use Rattle.model.specs.declared.profile.Profile.{Profile}
-use Rattle.model.specs.Profiles.{capacity_allowed, underload_allowed, zero_range_allowed, timeout_allowed, resolution_of, nets_allowed, is_ranged, coarse_allowed, fine_allowed, unit_allowed, every_unit, units_allowed, text_allowed20, text_allowed40, texts_allowed, profile_allowed}
+use Rattle.model.specs.Profiles.{capacity_allowed, underload_allowed, zero_range_allowed, timeout_allowed, resolution_of, nets_allowed, is_ranged, coarse_allowed, fine_allowed, unit_allowed, every_unit, units_allowed, text_allowed, texts_allowed, profile_allowed}
 use Rattle.model.proofs.Conjunctions.{Four, four, implied}
 
 -- the lines on C, U, R and W
@@ -109,10 +107,10 @@ allowed_unit p u h =
 pub record AllowedProfile (p : Profile) : Type 0 where
   pub limits : AllowedLimits p
   pub units : (u : WeightUnit) → AllowedUnit p u
-  pub model : text_allowed40 p.model ≡ true
-  pub software : text_allowed40 p.software ≡ true
-  pub serial : text_allowed20 p.serial ≡ true
-  pub release : text_allowed20 p.release ≡ true
+  pub model : text_allowed 40 p.model ≡ true
+  pub software : text_allowed 40 p.software ≡ true
+  pub serial : text_allowed 20 p.serial ≡ true
+  pub release : text_allowed 20 p.release ≡ true
   pub fine : p.fine ≤ p.capacity
 
 -- they hold where the profile's test does
@@ -122,17 +120,17 @@ allowed_profile p h =
     let before = both_left (limits_allowed p && units_allowed p && texts_allowed p) (fine_allowed p) h in
     let first = both_left (limits_allowed p && units_allowed p) (texts_allowed p) before in
     let texts = both_right (limits_allowed p && units_allowed p) (texts_allowed p) before in
-    let long = text_allowed40 p.model && text_allowed40 p.software in
-    let short = text_allowed20 p.serial && text_allowed20 p.release in
+    let long = text_allowed 40 p.model && text_allowed 40 p.software in
+    let short = text_allowed 20 p.serial && text_allowed 20 p.release in
     let longs = both_left long short texts in
     let shorts = both_right long short texts in
     record {
       limits = allowed_limits p (both_left (limits_allowed p) (units_allowed p) first);
       units = λ u. allowed_unit p u (each_unit (unit_allowed p) (both_right (limits_allowed p) (units_allowed p) first) u);
-      model = both_left (text_allowed40 p.model) (text_allowed40 p.software) longs;
-      software = both_right (text_allowed40 p.model) (text_allowed40 p.software) longs;
-      serial = both_left (text_allowed20 p.serial) (text_allowed20 p.release) shorts;
-      release = both_right (text_allowed20 p.serial) (text_allowed20 p.release) shorts;
+      model = both_left (text_allowed 40 p.model) (text_allowed 40 p.software) longs;
+      software = both_right (text_allowed 40 p.model) (text_allowed 40 p.software) longs;
+      serial = both_left (text_allowed 20 p.serial) (text_allowed 20 p.release) shorts;
+      release = both_right (text_allowed 20 p.serial) (text_allowed 20 p.release) shorts;
       fine = leb-true _ _ (both_right (limits_allowed p && units_allowed p && texts_allowed p) (fine_allowed p) h);
     }
 
@@ -141,13 +139,3 @@ pub text_short : (limit len : ℕ) (bytes : List ℕ) → (leb len limit && is_p
 text_short limit len bytes h =
     let few = leb-true len limit (both_left (leb len limit) (is_printable (take len bytes)) h) in
     omega (arith, length-take len bytes)
-
--- an empty text is allowed, whatever its bytes
-empty_allowed : (limit len : ℕ) (bytes : List ℕ) → len ≡ 0 → true ≡ (leb len limit && is_printable (take len bytes))
-empty_allowed limit len bytes e = rw (e, le-leb 0 limit (omega arith))
-
-pub empty_allowed20 : (t : Text20) → t.len ≡ 0 → true ≡ text_allowed20 t
-empty_allowed20 t = empty_allowed 20 t.len t.bytes
-
-pub empty_allowed40 : (t : Text40) → t.len ≡ 0 → true ≡ text_allowed40 t
-empty_allowed40 t = empty_allowed 40 t.len t.bytes

@@ -13,7 +13,7 @@ use Rattle.weight.proofs.Allowed.{both_left, both_right}
 use Rattle.model.specs.declared.profile.Profile.{Profile}
 use Rattle.model.specs.declared.sending.Sending.{Sending}
 use Rattle.model.specs.declared.state.State.{State}
-use Rattle.model.specs.Profiles.{text_allowed20}
+use Rattle.model.specs.Profiles.{text_allowed}
 use Rattle.model.specs.States.{zero_allowed, tare_allowed, line_allowed, display_allowed, waiting_allowed, sending_allowed, is_pending, is_change, state_allowed, start_state}
 use Rattle.model.specs.Sendings.{is_off, is_on_change, last_allowed, threshold_allowed, change_allowed}
 use Rattle.model.proofs.Conjunctions.{Four, four, implied}
@@ -73,7 +73,7 @@ change_tests p c waits h = (
 pub record AllowedState (p : Profile) (s : State) : Type 0 where
   pub tare : s.weighing.tare.0 ≤ p.capacity
   pub line : s.line.len ≤ line_limit
-  pub display : s.display.shown ≡ true → text_allowed20 s.display.text ≡ true
+  pub display : s.display.shown ≡ true → text_allowed 20 s.display.text ≡ true
   pub waiting : is_pending s.waiting.pending ≡ true → s.waiting.unstable < p.timeout
   pub sending : is_off s.sending.mode ≡ false → s.weighing.sampled ≡ true
   pub last : is_on_change s.sending.mode ≡ true
@@ -86,7 +86,7 @@ allowed_state p s h =
     record {
       tare = leb-true _ _ tests.tare;
       line = leb-true _ _ tests.line;
-      display = implied s.display.shown (text_allowed20 s.display.text) tests.display;
+      display = implied s.display.shown (text_allowed 20 s.display.text) tests.display;
       waiting = λ e. ltb-true _ _ (implied (is_pending s.waiting.pending) (ltb s.waiting.unstable p.timeout) tests.waiting e);
       sending = λ e. rw e at tests.sending;
       last = implied (is_on_change s.sending.mode) _ (change_tests p s.sending (is_change s.waiting.pending) tests.change).0;

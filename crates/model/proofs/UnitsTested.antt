@@ -8,7 +8,6 @@ use native.Mathlib.Omega.{arith}
 use borrow.Author.Tests.{le-leb, not-false}
 use lib.Dec.{leb}
 use Rattle.weight.specs.declared.units.WeightUnit.{WeightUnit}
-use Rattle.weight.specs.declared.units.WeightUnit.TheVariants.{G, Mg, Ct, Oz, Ozt, Gn, Dwt, Kg, Lb}
 use Rattle.weight.specs.Printing.{largest_reach}
 use Rattle.weight.specs.Ranges.{ranged}
 use Rattle.weight.specs.Rounding.{allowed_resolution}
@@ -23,79 +22,6 @@ use Rattle.model.specs.Profiles.{every_unit, fine_allowed, is_ranged, nets_allow
 use Rattle.model.proofs.ProfileFacts.{AllowedLimits, allowed_limits, limits_allowed, limits_allow}
 use Rattle.model.specs.Reaches.{surely_in, closely_in, surely_in_all, closely_in_all, coarsely_in, coarsely_in_all, reached_in_all}
 
--- one after another, and each with those after it
-nine : (a b c d e f g h i : Bool) → (a && b && c && d && e && f && g && h && i) ≡ (a && (b && (c && (d && (e && (f && (g && (h && (i && true)))))))))
-nine false b c d e f g h i = refl
-nine true false c d e f g h i = refl
-nine true true false d e f g h i = refl
-nine true true true false e f g h i = refl
-nine true true true true false f g h i = refl
-nine true true true true true false g h i = refl
-nine true true true true true true false h i = refl
-nine true true true true true true true false i = refl
-nine true true true true true true true true false = refl
-nine true true true true true true true true true = refl
-
--- nine tests, one a unit
-every_nine
-    : (f : WeightUnit → Bool) {a b c d e x g h i : Bool}
-    → a ≡ f G
-    → b ≡ f Mg
-    → c ≡ f Ct
-    → d ≡ f Oz
-    → e ≡ f Ozt
-    → x ≡ f Gn
-    → g ≡ f Dwt
-    → h ≡ f Kg
-    → i ≡ f Lb
-    → (a && b && c && d && e && x && g && h && i) ≡ every_unit f all_units
-every_nine f {a} {b} {c} {d} {e} {x} {g} {h} {i} ta tb tc td te tx tg th ti = nine a b c d e x g h i ∙ rw (ta, tb, tc, td, te, tx, tg, th, ti)
-
-module _ (rows : List Readability) (m : ℕ) {a b c d e x g h i : Bool} where
-  pub sure_in_all
-      : a ≡ surely_in rows m G
-      → b ≡ surely_in rows m Mg
-      → c ≡ surely_in rows m Ct
-      → d ≡ surely_in rows m Oz
-      → e ≡ surely_in rows m Ozt
-      → x ≡ surely_in rows m Gn
-      → g ≡ surely_in rows m Dwt
-      → h ≡ surely_in rows m Kg
-      → i ≡ surely_in rows m Lb
-      → (a && b && c && d && e && x && g && h && i) ≡ surely_in_all rows m
-  unfolding surely_in_all
-  sure_in_all = every_nine (surely_in rows m)
-
-  pub close_in_all
-      : a ≡ closely_in rows m G
-      → b ≡ closely_in rows m Mg
-      → c ≡ closely_in rows m Ct
-      → d ≡ closely_in rows m Oz
-      → e ≡ closely_in rows m Ozt
-      → x ≡ closely_in rows m Gn
-      → g ≡ closely_in rows m Dwt
-      → h ≡ closely_in rows m Kg
-      → i ≡ closely_in rows m Lb
-      → (a && b && c && d && e && x && g && h && i) ≡ closely_in_all rows m
-  unfolding closely_in_all
-  close_in_all = every_nine (closely_in rows m)
-
-module _ (rows : List Readability) {a b c d e x g h i : Bool} where
-  pub coarse_in_all
-      : (m : ℕ)
-      → a ≡ coarsely_in rows m G
-      → b ≡ coarsely_in rows m Mg
-      → c ≡ coarsely_in rows m Ct
-      → d ≡ coarsely_in rows m Oz
-      → e ≡ coarsely_in rows m Ozt
-      → x ≡ coarsely_in rows m Gn
-      → g ≡ coarsely_in rows m Dwt
-      → h ≡ coarsely_in rows m Kg
-      → i ≡ coarsely_in rows m Lb
-      → (a && b && c && d && e && x && g && h && i) ≡ coarsely_in_all rows m
-  unfolding coarsely_in_all
-  coarse_in_all m = every_nine (coarsely_in rows m)
-
 every_same : (f g : WeightUnit → Bool) → ((u : WeightUnit) → f u ≡ g u) → (us : List WeightUnit) → every_unit f us ≡ every_unit g us
 every_same f g same [] = refl
 every_same f g same (u ∷ us) = ap₂ ◌&&◌ (same u) (every_same f g same us)
@@ -106,20 +32,10 @@ every_implies f g then (u ∷ us) e =
     both_hold (g u) (every_unit g us) (then u (both_left (f u) (every_unit f us) e)) (every_implies f g then us (both_right (f u) (every_unit f us) e))
 
 -- what passes the quick test reaches
-surely_closely : (rows : List Readability) (m : ℕ) {sure : Bool} → sure ≡ surely_in_all rows m → sure ≡ true → true ≡ closely_in_all rows m
+pub surely_closely : (rows : List Readability) (m : ℕ) → surely_in_all rows m ≡ true → closely_in_all rows m ≡ true
 unfolding surely_in_all closely_in_all
-surely_closely rows m tested e =
-    sym (every_implies (surely_in rows m) (closely_in rows m) (λ u h. surely_fits_lem (resolution_from rows u) m h) all_units (sym tested ∙ e))
-
--- each way of the test
-pub sure_fine : (rows : List Readability) (m : ℕ) {ranged sure : Bool} → ranged ≡ false → sure ≡ surely_in_all rows m → sure ≡ true → true ≡ reached_in_all ranged rows m
-sure_fine rows m k tested e = rw k (surely_closely rows m tested e)
-
-pub close_ranged : (rows : List Readability) (m : ℕ) {ranged b : Bool} → ranged ≡ true → b ≡ coarsely_in_all rows m → b ≡ reached_in_all ranged rows m
-close_ranged rows m k e = rw k e
-
-pub close_fine : (rows : List Readability) (m : ℕ) {ranged b : Bool} → ranged ≡ false → b ≡ closely_in_all rows m → b ≡ reached_in_all ranged rows m
-close_fine rows m k e = rw k e
+surely_closely rows m e =
+    every_implies (surely_in rows m) (closely_in rows m) (λ u h. surely_fits_lem (resolution_from rows u) m h) all_units e
 
 -- what fits coarse fits fine, so that one test decides
 coarse_alone : (t a c b : Bool) → ((t && (a && c)) ≡ true → (a && b) ≡ true) → (t && (a && c)) ≡ (a && b && (t && c))

@@ -1,13 +1,12 @@
 -- The groups of the state, each put back alone; and a reaction, which is the new state and an answer.
 -- Assumes nothing.
-use Rattle.std.specs.Prelude.{Bool, true, false}
+use Rattle.std.specs.Prelude.{Bool, true, false, None}
 use Rattle.answer.specs.declared.answer.Answer.{Answer}
 use Rattle.line.specs.declared.receive.Line.{Line}
 use Rattle.model.specs.declared.react.Reaction.{Reaction}
 use Rattle.model.specs.declared.sending.Mode.{Mode}
 use Rattle.model.specs.declared.sending.Sending.{Sending}
 use Rattle.model.specs.declared.state.Display.{Display}
-use Rattle.model.specs.declared.state.Pending.TheVariants.{Nothing}
 use Rattle.model.specs.declared.state.State.{State}
 use Rattle.model.specs.declared.state.Waiting.{Waiting}
 use Rattle.model.specs.declared.weighing.Weighing.{Weighing}
@@ -40,4 +39,4 @@ chosen_reaction false a b = b
 
 -- no command waits
 abbrev pub not_waiting : Waiting
-not_waiting = record { pending = Nothing; unstable = 0 }
+not_waiting = record { pending = None; unstable = 0 }

@@ -3,8 +3,7 @@
 -- Assumes nothing.
 use Rattle.std.specs.Prelude.{ℕ, ◌+◌, Bool, true, false, cond, not, ◌&&◌, ◌||◌, List, [], ◌∷◌, leb, ltb, pos, neg_ℤ, take, get_or}
 use Rattle.answer.specs.Commands.{is_i2, is_i3, is_i4, is_i5}
-use Rattle.model.specs.declared.profile.Text20.{Text20}
-use Rattle.model.specs.declared.profile.Text40.{Text40}
+use Rattle.model.specs.declared.profile.Text.{Text}
 use Rattle.model.specs.declared.profile.Profile.{Profile}
 use Rattle.model.specs.declared.profile.Readability.{Readability}
 use Rattle.model.specs.declared.profile.Scale.{Scale}
@@ -17,11 +16,9 @@ use Rattle.weight.specs.declared.units.WeightUnit.{WeightUnit}
 use Rattle.weight.specs.Units.{all_units, unit_place}
 use Rattle.weight.specs.declared.rounding.Resolution.{Resolution}
 
-abbrev pub text_of20 : Text20 → List ℕ
-text_of20 t = take t.len t.bytes
-
-abbrev pub text_of40 : Text40 → List ℕ
-text_of40 t = take t.len t.bytes
+-- a text: its first `len` bytes
+abbrev pub text_of : {N : ℕ} → Text N → List ℕ
+text_of t = take t.len t.bytes
 
 -- Capacity C: 1 to 1,000,000,000
 abbrev pub capacity_allowed : Profile → Bool
@@ -79,15 +76,12 @@ abbrev pub units_allowed : Profile → Bool
 units_allowed p = every_unit (unit_allowed p) all_units
 
 -- Texts for I2 and I3 (0 to 40 characters), I4 and I5 (0 to 20): bytes 32 to 255 without 34
-abbrev pub text_allowed20 : Text20 → Bool
-text_allowed20 t = leb t.len 20 && is_printable (text_of20 t)
-
-abbrev pub text_allowed40 : Text40 → Bool
-text_allowed40 t = leb t.len 40 && is_printable (text_of40 t)
+abbrev pub text_allowed : (N : ℕ) → Text N → Bool
+text_allowed N t = leb t.len N && is_printable (text_of t)
 
 abbrev pub texts_allowed : Profile → Bool
 texts_allowed p =
-    (text_allowed40 p.model && text_allowed40 p.software) && (text_allowed20 p.serial && text_allowed20 p.release)
+    (text_allowed 40 p.model && text_allowed 40 p.software) && (text_allowed 20 p.serial && text_allowed 20 p.release)
 
 -- Fine limit F: 0 to C (No. 7)
 abbrev pub fine_allowed : Profile → Bool
@@ -116,7 +110,7 @@ scale_of p w =
 -- the text that goes with I2 to I5
 abbrev pub information_text : Profile → ℕ → List ℕ
 information_text p c =
-    cond (is_i2 c) (text_of40 p.model)
-    (cond (is_i3 c) (text_of40 p.software)
-    (cond (is_i4 c) (text_of20 p.serial)
-    (cond (is_i5 c) (text_of20 p.release) [])))
+    cond (is_i2 c) (text_of p.model)
+    (cond (is_i3 c) (text_of p.software)
+    (cond (is_i4 c) (text_of p.serial)
+    (cond (is_i5 c) (text_of p.release) [])))

@@ -1,12 +1,18 @@
 -- What the parts of a profile's test promise each other: that nets reach so far below zero in every unit, tested quickly and closely.
 -- Assumes nothing.
-use Rattle.std.specs.Prelude.{ℕ, Bool, true, false, ◌&&◌, List, leb}
+use Rattle.std.specs.Prelude.{ℕ, ◌≡◌, Bool, true, false, ◌&&◌, List, leb}
 use Rattle.model.specs.declared.profile.Readability.{Readability}
 use Rattle.model.specs.Profiles.{resolution_from, every_unit}
+use Rattle.weight.specs.declared.rounding.Resolution.{Resolution}
 use Rattle.weight.specs.declared.units.WeightUnit.{WeightUnit}
 use Rattle.weight.specs.Printing.{fits_below_zero, largest_reach, surely_fits}
 use Rattle.weight.specs.Ranges.{fits_coarse}
 use Rattle.weight.specs.Units.{all_units}
+
+-- every unit's resolution was asked for what a closure tests
+abbrev pub AsksEach : (Resolution → Bool → Type 0) → List Readability → Bool → Type 0
+AsksEach post rows all =
+    (test : Resolution → Bool) → ((r : Resolution) (b : Bool) → post r b → b ≡ test r) → all ≡ every_unit (λ u. test (resolution_from rows u)) all_units
 
 abbrev pub surely_in : List Readability → ℕ → WeightUnit → Bool
 surely_in rows m u = surely_fits (resolution_from rows u) m

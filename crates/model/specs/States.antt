@@ -1,13 +1,13 @@
 -- Document 01, "Refusal numbers", case 2, with the cases of document 02, and the state that power-on returns.
 -- Assumes nothing.
-use Rattle.std.specs.Prelude.{Bool, true, false, not, ◌&&◌, ◌||◌, leb, ltb, pos, neg_ℤ, replicate}
+use Rattle.std.specs.Prelude.{Bool, true, false, not, ◌&&◌, ◌||◌, leb, ltb, pos, neg_ℤ, replicate, Option, Some, None}
 use Rattle.std.specs.Int.Signed.{le_z}
 use Rattle.model.specs.declared.profile.Profile.{Profile}
 use Rattle.model.specs.declared.state.Pending.{Pending}
 use Rattle.model.specs.declared.sending.Mode.TheVariants.{Off}
-use Rattle.model.specs.declared.state.Pending.TheVariants.{Nothing, Weigh, Zero, Tare, Change}
+use Rattle.model.specs.declared.state.Pending.TheVariants.{Weigh, Zero, Tare, Change}
 use Rattle.model.specs.declared.state.State.{State}
-use Rattle.model.specs.Profiles.{text_allowed20}
+use Rattle.model.specs.Profiles.{text_allowed}
 use Rattle.model.specs.Sendings.{is_off, change_allowed}
 use Rattle.line.specs.Receiving.{empty_line, line_limit}
 use Rattle.weight.specs.declared.units.WeightUnit.TheVariants.{G}
@@ -26,22 +26,20 @@ line_allowed s = leb s.line.len line_limit
 
 -- a shown text that D would take
 abbrev pub display_allowed : State → Bool
-display_allowed s = not s.display.shown || text_allowed20 s.display.text
+display_allowed s = not s.display.shown || text_allowed 20 s.display.text
 
-abbrev pub is_pending : Pending → Bool
-is_pending Nothing = false
-is_pending Weigh = true
-is_pending Zero = true
-is_pending Tare = true
-is_pending Change = true
+-- a command waits
+abbrev pub is_pending : Option Pending → Bool
+is_pending None = false
+is_pending (Some q) = true
 
 -- SR waits
-abbrev pub is_change : Pending → Bool
-is_change Nothing = false
-is_change Weigh = false
-is_change Zero = false
-is_change Tare = false
-is_change Change = true
+abbrev pub is_change : Option Pending → Bool
+is_change None = false
+is_change (Some Weigh) = false
+is_change (Some Zero) = false
+is_change (Some Tare) = false
+is_change (Some Change) = true
 
 -- not waiting with W or more unstable samples counted
 abbrev pub waiting_allowed : Profile → State → Bool
@@ -68,7 +66,7 @@ start_state =
     record {
       line = empty_line;
       weighing = record { zero = record { 0 = pos 0 }; tare = record { 0 = 0 }; unit = G; sampled = false; load = record { 0 = pos 0 }; stable = false };
-      waiting = record { pending = Nothing; unstable = 0 };
+      waiting = record { pending = None; unstable = 0 };
       sending = record { last = record { 0 = pos 0 }; threshold = record { 0 = 0 }; mode = Off; owed = false; outside = false };
       display = record { shown = false; text = record { bytes = replicate 20 0; len = 0 } };
     }

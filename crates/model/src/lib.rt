@@ -11,9 +11,7 @@ mod state;
 mod weighing;
 
 pub use groups::{with_display, with_line, with_mode, with_sending, with_waiting, with_weighing};
-pub use profile::{
-    Profile, Readability, Scale, Text20, Text40, is_profile_allowed, resolution_in, scale_of,
-};
+pub use profile::{Profile, Readability, Scale, Text, is_profile_allowed, resolution_in, scale_of};
 pub use react::{Reaction, answered};
 pub use refusal::Refusal;
 pub use sending::{Mode, Sending, is_off};

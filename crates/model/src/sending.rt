@@ -1,10 +1,10 @@
 // What is sent without being asked for each time: SIR's repetition, and SR's send on change.
 ghost use Rattle.std.specs.Prelude.{◌≡◌};
-ghost use Rattle.model.specs.Sendings.{is_off, is_on_change, change_allowed};
+ghost use Rattle.model.specs.Sendings.{is_off, change_allowed};
 
 use weight::{Micrograms, Threshold, is_net_within, is_threshold_within};
 
-#[derive(Clone, Copy)]
+#[derive(Clone, Copy, PartialEq, Eq)]
 pub enum Mode {
     Off,
     // Document 01's repetition: each sample is answered, as SIR asked.
@@ -29,32 +29,18 @@ pub struct Sending {
 pub fn is_off(mode: Mode) -> bool
     ensures { result ≡ is_off mode }
 {
-    match mode {
-        Mode::Off => true,
-        Mode::EachSample => false,
-        Mode::OnChange => false,
-    }
-}
-
-fn is_on_change(mode: Mode) -> bool
-    ensures { result ≡ is_on_change mode }
-{
-    match mode {
-        Mode::Off => false,
-        Mode::EachSample => false,
-        Mode::OnChange => true,
-    }
+    mode == Mode::Off
 }
 
 // What SR keeps, where it runs or `waits`.
+#[tactic(auto, unfolding(crate::specs::Sendings::change_allowed))]
 pub fn is_change_allowed(underload: u32, capacity: u32, sending: Sending, waits: bool) -> bool
     ensures { result ≡ change_allowed underload capacity sending waits }
 {
-    let last = sending.last;
-    let threshold = sending.threshold;
-    let mode = sending.mode;
-    if is_on_change(mode) {
-        return is_net_within(last, underload, capacity) & is_threshold_within(threshold, capacity);
+    let within = is_threshold_within(sending.threshold, capacity);
+    if sending.mode == Mode::OnChange {
+        is_net_within(sending.last, underload, capacity) & within
+    } else {
+        !waits | within
     }
-    !waits | is_threshold_within(threshold, capacity)
 }

@@ -3,21 +3,17 @@
 use Rattle.std.specs.Prelude.{ℕ, List, ◌∷◌, ◌++◌, replicate, set}
 use Rattle.model.specs.declared.profile.Profile.{Profile}
 use Rattle.model.specs.declared.profile.Readability.{Readability}
-use Rattle.model.specs.declared.profile.Text20.{Text20}
-use Rattle.model.specs.declared.profile.Text40.{Text40}
+use Rattle.model.specs.declared.profile.Text.{Text}
 use Rattle.weight.specs.declared.rounding.Resolution.{Resolution}
 use Rattle.weight.specs.Characters.{space}
 use Rattle.weight.specs.Units.{unit_place}
 use Rattle.text.specs.Ascii.{ascii}
 
-abbrev pub no_text40 : Text40
-no_text40 = record { bytes = replicate 40 0; len = 0 }
-
-abbrev pub no_text20 : Text20
-no_text20 = record { bytes = replicate 20 0; len = 0 }
+abbrev pub no_text : (N : ℕ) → Text N
+no_text N = record { bytes = replicate N 0; len = 0 }
 
 -- I4 text VA-0001
-abbrev pub serial_a : Text20
+abbrev pub serial_a : Text 20
 serial_a = record { bytes = ascii "VA-0001" ++ replicate 13 space; len = 7 }
 
 -- in the order of the units: g has d 4, k 1, the others d 2, k 1
@@ -34,10 +30,10 @@ profile_of fine rows =
       zeroing = 4_400_000;
       timeout = 3;
       readability = rows;
-      model = no_text40;
-      software = no_text40;
+      model = no_text 40;
+      software = no_text 40;
       serial = serial_a;
-      release = no_text20;
+      release = no_text 20;
     }
 
 -- with F = C, as document 02's No. 7 has it

@@ -2,28 +2,23 @@
 #![tactic(auto)]
 
 ghost use Rattle.std.specs.Prelude.{◌≡◌};
-ghost use Rattle.profiles.specs.ProfileA.{no_text40, no_text20, serial_a, readability_a, profile_a};
+ghost use Rattle.profiles.specs.ProfileA.{no_text, serial_a, readability_a, profile_a};
 
-use model::{Profile, Readability, Text20, Text40};
+use model::{Profile, Readability, Text};
 
-fn no_text() -> Text40
-    ensures { result ≡ no_text40 }
+fn no_text<const N: usize>() -> Text<N>
+    ensures { result ≡ no_text N }
 {
-    let bytes = [0u8; 40];
-    Text40 { bytes, len: 0 }
+    Text {
+        bytes: [0; N],
+        len: 0,
+    }
 }
 
-fn short_text() -> Text20
-    ensures { result ≡ no_text20 }
-{
-    let bytes = [0u8; 20];
-    Text20 { bytes, len: 0 }
-}
-
-fn serial() -> Text20
+fn serial() -> Text<20>
     ensures { result ≡ serial_a }
 {
-    Text20 {
+    Text {
         bytes: *b"VA-0001             ",
         len: 7,
     }
@@ -57,6 +52,6 @@ pub fn profile_a() -> Profile
         model: no_text(),
         software: no_text(),
         serial: serial(),
-        release: short_text(),
+        release: no_text(),
     }
 }

@@ -15,13 +15,12 @@ use words::{first, put};
 
 // The line has ended. One that fills the buffer may have lost bytes.
 fn end_line(rt: &impl Print, session: Session, line: &[u8], out: &mut [u8]) -> io::Result<Session> {
-    let held = session.held;
-    let mut next = session;
-    next.held = 0;
-    if held < line.len() {
-        return perform(rt, next, first(line, held), out);
+    let next = Session { held: 0, ..session };
+    if session.held < line.len() {
+        perform(rt, next, first(line, session.held), out)
+    } else {
+        unknown(rt, next)
     }
-    unknown(rt, next)
 }
 
 fn take(
@@ -32,11 +31,13 @@ fn take(
     out: &mut [u8],
 ) -> io::Result<Session> {
     if byte == b'\n' {
-        return end_line(rt, session, line, out);
+        end_line(rt, session, line, out)
+    } else {
+        Ok(Session {
+            held: put(line, session.held, byte),
+            ..session
+        })
     }
-    let mut next = session;
-    next.held = put(line, session.held, byte);
-    Ok(next)
 }
 
 // Every byte of a chunk, one after the other.
@@ -48,46 +49,38 @@ fn take_all(
     out: &mut [u8],
 ) -> io::Result<Session> {
     let mut latest = session;
-    let mut i = 0;
-    while i < chunk.len() {
-        let byte = chunk[i];
-        i += 1;
-        latest = take(rt, latest, byte, line, out)?;
+    for byte in chunk {
+        latest = take(rt, latest, *byte, line, out)?;
     }
     Ok(latest)
 }
 
-// The end of the input ends a last line that has no LF; an empty one does nothing.
-fn close(rt: &impl Print, session: Session, line: &[u8], out: &mut [u8]) -> io::Result<Session> {
-    let mut last = end_line(rt, session, line, out)?;
-    last.closed = true;
-    Ok(last)
-}
-
-// Reads once.
+// Reads once; none at the end of the input. That ends a last line that has no LF; an empty one does nothing.
 fn take_some(
     rt: &impl Print,
     input: &mut impl Read,
     session: Session,
     line: &mut [u8],
     out: &mut [u8],
-) -> io::Result<Session> {
+) -> io::Result<Option<Session>> {
     let mut chunk = [0u8; 4096];
     let n = input.read(&mut chunk)?;
     if n < 1 {
-        return close(rt, session, line, out);
+        end_line(rt, session, line, out)?;
+        Ok(None)
+    } else {
+        Ok(Some(take_all(rt, session, &chunk[..n], line, out)?))
     }
-    take_all(rt, session, &chunk[..n], line, out)
 }
 
 // A proved loop has to end, and nothing says that an input does: it counts up to a number that no run reaches.
 fn play(rt: &impl Print, input: &mut impl Read, line: &mut [u8], out: &mut [u8]) -> io::Result<()> {
     let mut session = start();
     for _ in 0..u64::MAX {
-        session = take_some(rt, input, session, line, out)?;
-        if session.closed {
+        let Some(next) = take_some(rt, input, session, line, out)? else {
             return Ok(());
-        }
+        };
+        session = next;
     }
     Ok(())
 }

@@ -1,51 +1,13 @@
 // One line of the script. It is judged whole before anything is set or called.
 use crate::profile::with_text;
-use crate::session::{Call, Session, make, make_whole, unknown};
+use crate::session::{Session, make, make_whole, unknown};
 use crate::words::{first, first_cells};
+use device::{power_on, take_byte, take_sample};
 use script::{
-    Numbers, Order, UnitNumbers, order_of, put_bytes, put_marks, sent_byte, with_fine,
-    with_numbers, with_unit,
+    Order, order_of, put_bytes, put_marks, sent_byte, with_fine, with_numbers, with_unit,
 };
 use std::io;
 use told::put_state;
-
-fn set_numbers(session: Session, numbers: Numbers) -> Session {
-    let given = session.profile;
-    let profile = with_numbers(given, numbers);
-    let mut next = session;
-    next.profile = profile;
-    next
-}
-
-fn set_fine(session: Session, fine: u32) -> Session {
-    let given = session.profile;
-    let profile = with_fine(given, fine);
-    let mut next = session;
-    next.profile = profile;
-    next
-}
-
-fn set_unit(session: Session, numbers: UnitNumbers) -> Session {
-    let given = session.profile;
-    let profile = with_unit(given, numbers);
-    let mut next = session;
-    next.profile = profile;
-    next
-}
-
-fn set_text(session: Session, line: &[u8]) -> Session {
-    let given = session.profile;
-    let profile = with_text(given, line);
-    let mut next = session;
-    next.profile = profile;
-    next
-}
-
-fn set_room(session: Session, room: usize) -> Session {
-    let mut next = session;
-    next.room = room;
-    next
-}
 
 // The bytes that the line sends, one after the other.
 fn call_bytes(
@@ -57,10 +19,11 @@ fn call_bytes(
     out: &mut [u8],
 ) -> io::Result<Session> {
     let mut latest = session;
-    let mut i = 0;
-    while i < count {
-        latest = make(rt, latest, Call::Byte(sent_byte(line, i), faulty), out)?;
-        i += 1;
+    for i in 0..count {
+        let byte = sent_byte(line, i);
+        latest = make(rt, latest, out, |cells| {
+            take_byte(latest.profile, latest.state, byte, faulty, cells)
+        })?;
     }
     Ok(latest)
 }
@@ -89,9 +52,8 @@ fn call_whole(
 
 // It calls nothing.
 fn tell_state(rt: &impl Print, session: Session) -> io::Result<Session> {
-    let state = session.state;
     let mut line = [0u8; 256];
-    let count = put_state(state, &mut line);
+    let count = put_state(session.state, &mut line);
     rt.write_all(first(&line, count))?;
     Ok(session)
 }
@@ -102,19 +64,35 @@ pub fn perform(
     line: &[u8],
     out: &mut [u8],
 ) -> io::Result<Session> {
-    let order = order_of(session.on, line);
+    let Session { profile, state, .. } = session;
+    let Some(order) = order_of(session.on, line) else {
+        return unknown(rt, session);
+    };
     match order {
         Order::Nothing => Ok(session),
-        Order::On => make(rt, session, Call::On, out),
+        Order::On => make(rt, session, out, |cells| power_on(profile, state, cells)),
         Order::State => tell_state(rt, session),
-        Order::Numbers(numbers) => Ok(set_numbers(session, numbers)),
-        Order::Fine(fine) => Ok(set_fine(session, fine)),
-        Order::Unit(numbers) => Ok(set_unit(session, numbers)),
-        Order::Text => Ok(set_text(session, line)),
-        Order::Room(room) => Ok(set_room(session, room)),
+        Order::Numbers(numbers) => Ok(Session {
+            profile: with_numbers(profile, numbers),
+            ..session
+        }),
+        Order::Fine(fine) => Ok(Session {
+            profile: with_fine(profile, fine),
+            ..session
+        }),
+        Order::Unit(numbers) => Ok(Session {
+            profile: with_unit(profile, numbers),
+            ..session
+        }),
+        Order::Text => Ok(Session {
+            profile: with_text(profile, line),
+            ..session
+        }),
+        Order::Room(room) => Ok(Session { room, ..session }),
         Order::Bytes(count, faulty) => call_bytes(rt, session, line, count, faulty, out),
         Order::Buffer(count, marked) => call_whole(rt, session, line, count, marked, out),
-        Order::Sample(load, stable) => make(rt, session, Call::Sample(load, stable), out),
-        Order::Unknown => unknown(rt, session),
+        Order::Sample(load, stable) => make(rt, session, out, |cells| {
+            take_sample(profile, state, load, stable, cells)
+        }),
     }
 }

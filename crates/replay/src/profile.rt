@@ -1,58 +1,43 @@
 // What a line `text N TEXT` of the script sets in the profile: N says which text it is.
-use crate::words::put;
-use model::{Profile, Text20, Text40};
+use model::{Profile, Text};
 
 const WHICH: usize = 5;
 
 const TEXT: usize = 7;
 
-fn copy(from: &[u8], to: &mut [u8]) {
-    let mut i = 0;
-    while i < from.len() {
-        put(to, i, from[i]);
-        i += 1;
-    }
-}
-
 // A text of the script is at most as long as the profile's, so its length is one byte.
-fn length_of(text: &[u8]) -> u8 {
-    let len = text.len();
-    if 255 < len {
-        return 0;
+fn held<const N: usize>(text: &[u8]) -> Text<N> {
+    let mut bytes = [0u8; N];
+    for (cell, byte) in bytes.iter_mut().zip(text) {
+        *cell = *byte;
     }
-    len as u8
-}
-
-fn text40(text: &[u8]) -> Text40 {
-    let mut bytes = [0u8; 40];
-    copy(text, &mut bytes);
-    Text40 {
+    Text {
         bytes,
-        len: length_of(text),
-    }
-}
-
-fn text20(text: &[u8]) -> Text20 {
-    let mut bytes = [0u8; 20];
-    copy(text, &mut bytes);
-    Text20 {
-        bytes,
-        len: length_of(text),
+        len: u8::try_from(text.len()).unwrap_or(0),
     }
 }
 
 pub fn with_text(profile: Profile, line: &[u8]) -> Profile {
-    let mut next = profile;
-    if line.len() < TEXT {
-        return next;
-    }
-    let text = &line[TEXT..];
+    let Some(text) = line.get(TEXT..) else {
+        return profile;
+    };
     match line[WHICH] {
-        b'2' => next.model = text40(text),
-        b'3' => next.software = text40(text),
-        b'4' => next.serial = text20(text),
-        b'5' => next.release = text20(text),
-        _ => {}
+        b'2' => Profile {
+            model: held(text),
+            ..profile
+        },
+        b'3' => Profile {
+            software: held(text),
+            ..profile
+        },
+        b'4' => Profile {
+            serial: held(text),
+            ..profile
+        },
+        b'5' => Profile {
+            release: held(text),
+            ..profile
+        },
+        _ => profile,
     }
-    next
 }

@@ -4,27 +4,18 @@
 pub fn put(line: &mut [u8], at: usize, byte: u8) -> usize {
     if at < line.len() {
         line[at] = byte;
-        return at + 1;
+        at + 1
+    } else {
+        at
     }
-    at
 }
 
 // The first `count` bytes; nothing where there are fewer.
 pub fn first(text: &[u8], count: usize) -> &[u8] {
-    let start = 0;
-    let last = text.len();
-    if last < count {
-        return &text[last..];
-    }
-    &text[start..count]
+    text.get(..count).unwrap_or(&[])
 }
 
 // The same of a buffer to be written.
 pub fn first_cells(cells: &mut [u8], count: usize) -> &mut [u8] {
-    let start = 0;
-    let last = cells.len();
-    if last < count {
-        return &mut cells[start..start];
-    }
-    &mut cells[start..count]
+    cells.get_mut(..count).unwrap_or(&mut [])
 }

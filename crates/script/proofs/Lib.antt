@@ -1,6 +1,1 @@
-mod HexText
-mod Loads
-mod MarkedText
-mod NumberText
-mod Ordering
-mod WordText
+mod Cells

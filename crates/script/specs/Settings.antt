@@ -1,44 +1,37 @@
 -- What a line of the script sets in the profile.
 -- Assumes nothing.
-use Rattle.std.specs.Prelude.{ℕ, Bool, true, false, cond, ◌&&◌, ◌||◌, List, leb, eqb, length, get_or, drop, set}
+use Rattle.std.specs.Prelude.{ℕ, Bool, cond, ◌&&◌, ◌||◌, List, Option, Some, option_and_then, unwrap_or, leb, eqb, length, get_or, drop, set}
 use Rattle.model.specs.declared.profile.Profile.{Profile}
-use Rattle.weight.specs.declared.units.WeightUnit.{WeightUnit}
 use Rattle.weight.specs.declared.units.WeightUnit.TheVariants.{G}
-use Rattle.text.specs.declared.unit_texts.UnitRead.{UnitRead}
-use Rattle.text.specs.declared.unit_texts.UnitRead.TheVariants.{Named, Unknown}
 use Rattle.weight.specs.Characters.{space}
 use Rattle.weight.specs.Units.{unit_place}
 use Rattle.text.specs.UnitTexts.{unit_named}
 use Rattle.script.specs.declared.profile.Numbers.{Numbers}
 use Rattle.script.specs.declared.profile.UnitNumbers.{UnitNumbers}
-use Rattle.script.specs.Numbers.{number_of}
+use Rattle.script.specs.Numbers.{number_up_to}
 use Rattle.script.specs.Words.{after_words, word_at}
+
+infixl 10 ◌>>=◌
+abbrev pub ◌>>=◌ : {A B : Type 0} → Option A → (A → Option B) → Option B
+o >>= f = option_and_then f o
 
 -- ---- the numbers
 
-abbrev pub number_at : ℕ → List ℕ → ℕ
-number_at n t = number_of (word_at n t)
+abbrev pub word_number : List ℕ → Option ℕ
+word_number t = number_up_to 4_294_967_295 t
 
--- C, U, R and W; the last is all that is left
-abbrev pub numbers_in : List ℕ → Numbers
-numbers_in t =
-    record {
-      capacity = number_at 0 t;
-      underload = number_at 1 t;
-      zeroing = number_at 2 t;
-      timeout = number_of (after_words 3 t);
-    }
+-- C, U, R and W, each of its width; the last is all that is left
+abbrev pub numbers_in : List ℕ → Option Numbers
+numbers_in t = do
+  c ← word_number (word_at 0 t)
+  u ← word_number (word_at 1 t)
+  r ← word_number (word_at 2 t)
+  w ← word_number (after_words 3 t)
+  Some (record { capacity = c; underload = u; zeroing = r; timeout = w })
 
-abbrev pub in_word : ℕ → Bool
-in_word n = leb n 4_294_967_295
-
--- each is a number of its width
-abbrev pub are_numbers : Numbers → Bool
-are_numbers n = in_word n.capacity && in_word n.underload && in_word n.zeroing && in_word n.timeout
-
--- 0 where it is none of its width, which the test above refuses
+-- 0 where it is none of its width, which no line gives
 abbrev pub word_of : ℕ → ℕ
-word_of n = cond (in_word n) n 0
+word_of n = cond (leb n 4_294_967_295) n 0
 
 -- the profile with these numbers, with C for F, and all else its own
 abbrev pub with_numbers : Profile → Numbers → Profile
@@ -74,26 +67,19 @@ with_fine p fine =
 
 -- ---- the decimals and the step of a unit
 
--- the unit, D and K; the last is all that is left
-abbrev pub unit_numbers_in : List ℕ → UnitNumbers
-unit_numbers_in t = record { unit = unit_named (word_at 0 t); decimals = number_at 1 t; step = number_of (after_words 2 t) }
+abbrev pub byte_number : List ℕ → Option ℕ
+byte_number t = number_up_to 255 t
 
-abbrev pub is_named : UnitRead → Bool
-is_named (Named u) = true
-is_named Unknown = false
-
-abbrev pub named_unit : UnitRead → WeightUnit
-named_unit (Named u) = u
-named_unit Unknown = G
-
-abbrev pub in_byte : ℕ → Bool
-in_byte n = leb n 255
-
-abbrev pub are_unit_numbers : UnitNumbers → Bool
-are_unit_numbers n = is_named n.unit && in_byte n.decimals && in_byte n.step
+-- the unit, D and K, each of its width; the last is all that is left
+abbrev pub unit_numbers_in : List ℕ → Option UnitNumbers
+unit_numbers_in t = do
+  u ← unit_named (word_at 0 t)
+  d ← byte_number (word_at 1 t)
+  k ← byte_number (after_words 2 t)
+  Some (record { unit = Some u; decimals = d; step = k })
 
 abbrev pub byte_of : ℕ → ℕ
-byte_of n = cond (in_byte n) n 0
+byte_of n = cond (leb n 255) n 0
 
 -- the profile with these in the row of that unit and all else its own
 abbrev pub with_unit : Profile → UnitNumbers → Profile
@@ -105,7 +91,7 @@ with_unit p n =
       zeroing = p.zeroing;
       timeout = p.timeout;
       readability =
-          set p.readability (unit_place (named_unit n.unit)) (record { decimals = byte_of n.decimals; step = byte_of n.step });
+          set p.readability (unit_place (unwrap_or n.unit G)) (record { decimals = byte_of n.decimals; step = byte_of n.step });
       model = p.model;
       software = p.software;
       serial = p.serial;

@@ -1,6 +1,6 @@
 -- The words of a line, with one space between them.
 -- Assumes nothing.
-use Rattle.std.specs.Prelude.{ℕ, zero, suc, cond, List, [], ◌∷◌, eqb}
+use Rattle.std.specs.Prelude.{ℕ, zero, suc, List, ◌==◌, count_by}
 use Rattle.weight.specs.Characters.{space}
 use Rattle.text.specs.Searching.{before_first, after_first}
 
@@ -23,5 +23,4 @@ word_at n t = first_word (after_words n t)
 
 -- how many spaces there are: as many words follow the first
 abbrev pub spaces_in : List ℕ → ℕ
-spaces_in [] = 0
-spaces_in (c ∷ t) = cond (eqb c space) (suc (spaces_in t)) (spaces_in t)
+spaces_in t = count_by (λ c. c == space) t

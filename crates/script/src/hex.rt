@@ -4,15 +4,14 @@ ghost use Rattle.script.specs.Hex.{hex_digit, can_stand, are_hex, two_digits, he
 
 use text::byte_at;
 
-// 16 for a byte that is no such digit.
-pub fn digit(byte: u8) -> u8
+pub fn digit(byte: u8) -> Option<u8>
     ensures { result ≡ hex_digit byte }
 {
     match byte {
-        b'0'..=b'9' => byte - b'0',
-        b'A'..=b'F' => byte - b'A' + 10,
-        b'a'..=b'f' => byte - b'a' + 10,
-        _ => 16,
+        b'0'..=b'9' => Some(byte - b'0'),
+        b'A'..=b'F' => Some(byte - b'A' + 10),
+        b'a'..=b'f' => Some(byte - b'a' + 10),
+        _ => None,
     }
 }
 
@@ -21,45 +20,37 @@ fn stands(i: usize, byte: u8) -> bool
     ensures { result ≡ can_stand i byte }
 {
     if i % 3 == 2 {
-        return byte == b' ';
+        byte == b' '
+    } else {
+        digit(byte).is_some()
     }
-    digit(byte) < 16
 }
 
 pub fn are_bytes(text: &[u8]) -> bool
     ensures { result ≡ are_hex text.now }
 {
-    let mut good = text.len() % 3 == 2;
-    let mut i = 0;
-    while i < text.len() {
-        good = good & stands(i, text[i]);
-        i += 1;
+    if text.len() % 3 != 2 {
+        return false;
     }
-    good
+    for (i, byte) in text.iter().enumerate() {
+        if !stands(i, *byte) {
+            return false;
+        }
+    }
+    true
 }
 
-fn joined(high: u8, low: u8) -> u8
+fn joined(high: u8, low: u8) -> Option<u8>
     ensures { result ≡ two_digits high low }
 {
-    if 15 < high {
-        return 0;
-    }
-    if 15 < low {
-        return 0;
-    }
-    high * 16 + low
+    let tens = digit(high)?;
+    Some(tens * 16 + digit(low)?)
 }
 
-// The byte whose digits stand at 3 x `i`; 0 past the end.
-pub fn hex_byte(text: &[u8], i: usize) -> u8
+// The byte whose digits stand at 3 x `i`; none past the end.
+pub fn hex_byte(text: &[u8], i: usize) -> Option<u8>
     ensures { result ≡ hex_byte text.now i }
 {
-    if text.len() / 3 < i {
-        return 0;
-    }
-    let first = i * 3;
-    if text.len() <= first {
-        return 0;
-    }
-    joined(digit(text[first]), digit(byte_at(text, first + 1)))
+    let high = text.get(i.checked_mul(3)?)?;
+    joined(*high, byte_at(text, i * 3 + 1))
 }

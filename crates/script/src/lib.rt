@@ -10,6 +10,6 @@ mod profile;
 mod words;
 
 pub use marked::{put_bytes, put_marks};
-pub use number::{LoadRead, above_zero, below_zero};
+pub use number::{above_zero, below_zero};
 pub use order::{Order, order_of, sent_byte};
 pub use profile::{Numbers, UnitNumbers, with_fine, with_numbers, with_unit};

@@ -1,17 +1,16 @@
 // What a line of the script asks for. It is judged whole before anything is set or called.
 ghost use Rattle.std.specs.Prelude.{◌≡◌, ◌≤◌, length};
-ghost use Rattle.script.specs.Orders.{numbers_order, fine_order, unit_order, text_order, room_order, hex_order, load_order, call_order, lent_order, buffer_order, named_order, order_of, command_byte, sent_byte};
+ghost use Rattle.script.specs.Orders.{hex_order, load_order, call_order, lent_order, buffer_order, named_order, order_of, command_byte, sent_byte};
 ghost use Rattle.script.specs.Words.{first_word};
 
 use crate::hex::{are_bytes, hex_byte};
 use crate::marked::are_marked;
-use crate::number::{LoadRead, load_of, number};
+use crate::number::{load_of, number_up_to};
 use crate::profile::{
-    LARGEST_WORD, Numbers, UnitNumbers, are_numbers, are_unit_numbers, read_numbers,
-    read_unit_numbers, text_fits,
+    LARGEST_WORD, Numbers, UnitNumbers, read_numbers, read_unit_numbers, text_fits,
 };
 use crate::words::{after_word, first_word, from, spaces_in};
-use text::{byte_at, first_space, same_text};
+use text::{byte_at, same_text};
 use weight::Load;
 
 const LARGEST_ROOM: u64 = 4096;
@@ -39,173 +38,107 @@ pub enum Order {
     Buffer(usize, usize),
     // A load, and whether it is marked stable.
     Sample(Load, bool),
-    Unknown,
-}
-
-fn numbers_order(rest: &[u8]) -> Order
-    ensures { result ≡ numbers_order rest.now }
-{
-    let numbers = read_numbers(rest);
-    if are_numbers(numbers) {
-        return Order::Numbers(numbers);
-    }
-    Order::Unknown
-}
-
-fn fine_order(rest: &[u8]) -> Order
-    ensures { result ≡ fine_order rest.now }
-{
-    let fine = number(rest);
-    if fine <= LARGEST_WORD {
-        return Order::Fine(fine as u32);
-    }
-    Order::Unknown
-}
-
-fn unit_order(rest: &[u8]) -> Order
-    ensures { result ≡ unit_order rest.now }
-{
-    let numbers = read_unit_numbers(rest);
-    if are_unit_numbers(numbers) {
-        return Order::Unit(numbers);
-    }
-    Order::Unknown
-}
-
-fn text_order(rest: &[u8]) -> Order
-    ensures { result ≡ text_order rest.now }
-{
-    if text_fits(rest) {
-        return Order::Text;
-    }
-    Order::Unknown
-}
-
-fn room_order(rest: &[u8]) -> Order
-    ensures { result ≡ room_order rest.now }
-{
-    let room = number(rest);
-    if LARGEST_ROOM < room {
-        return Order::Unknown;
-    }
-    Order::Room(room as usize)
 }
 
 // n bytes of two digits have n - 1 spaces between them.
-fn hex_order(faulty: bool, rest: &[u8]) -> Order
+fn hex_order(faulty: bool, rest: &[u8]) -> Option<Order>
     ensures { result ≡ hex_order faulty rest.now }
 {
-    if are_bytes(rest) {
-        return Order::Bytes(rest.len() / 3 + 1, faulty);
-    }
-    Order::Unknown
+    are_bytes(rest).then_some(Order::Bytes(rest.len() / 3 + 1, faulty))
 }
 
-fn load_order(stable: bool, read: LoadRead) -> Order
-    ensures { result ≡ load_order stable read }
+fn load_order(stable: bool, rest: &[u8]) -> Option<Order>
+    ensures { result ≡ load_order stable rest.now }
 {
-    match read {
-        LoadRead::Within(load) => Order::Sample(load, stable),
-        LoadRead::Beyond => Order::Unknown,
-    }
+    Some(Order::Sample(load_of(rest)?, stable))
 }
 
 // A letter, a space and the rest. The bytes of a command are as many as those of its line, with CR LF for the arrow and the space.
-fn call_order(line: &[u8]) -> Order
+fn call_order(line: &[u8]) -> Option<Order>
     ensures { result ≡ call_order line.now }
 {
-    let name = byte_at(line, 0);
     let rest = from(line, 2);
-    match name {
+    match byte_at(line, 0) {
         b'b' => hex_order(false, rest),
         b'f' => hex_order(true, rest),
-        b'>' => Order::Bytes(line.len(), false),
-        b's' => load_order(true, load_of(rest)),
-        b'u' => load_order(false, load_of(rest)),
-        _ => Order::Unknown,
+        b'>' => Some(Order::Bytes(line.len(), false)),
+        b's' => load_order(true, rest),
+        b'u' => load_order(false, rest),
+        _ => None,
     }
 }
 
 // By its first word: as many marks as bytes, one fewer or one more.
-fn lent_order(line: &[u8], count: usize) -> Order
+fn lent_order(line: &[u8], count: usize) -> Option<Order>
     requires { count ≤ length line.now }
     ensures { result ≡ lent_order (first_word line.now) count }
 {
     let name = first_word(line);
     if same_text(name, b"w") {
-        return Order::Buffer(count, count);
+        Some(Order::Buffer(count, count))
+    } else if same_text(name, b"w-") {
+        Some(Order::Buffer(count, count.checked_sub(1)?))
+    } else if same_text(name, b"w+") {
+        Some(Order::Buffer(count, count + 1))
+    } else {
+        None
     }
-    if same_text(name, b"w-") {
-        if count < 1 {
-            return Order::Unknown;
-        }
-        return Order::Buffer(count, count - 1);
-    }
-    if same_text(name, b"w+") {
-        return Order::Buffer(count, count + 1);
-    }
-    Order::Unknown
 }
 
 // Each word after the first is a byte.
-fn buffer_order(line: &[u8]) -> Order
+fn buffer_order(line: &[u8]) -> Option<Order>
     ensures { result ≡ buffer_order line.now }
 {
     let count = spaces_in(line);
     if are_marked(after_word(line), count) {
-        return lent_order(line, count);
+        lent_order(line, count)
+    } else {
+        None
     }
-    Order::Unknown
 }
 
 // By its first word.
-fn named_order(on: bool, line: &[u8]) -> Order
+fn named_order(on: bool, line: &[u8]) -> Option<Order>
     ensures { result ≡ named_order on line.now }
 {
     let name = first_word(line);
     let rest = after_word(line);
     if same_text(name, b"profile") {
-        return numbers_order(rest);
+        Some(Order::Numbers(read_numbers(rest)?))
+    } else if same_text(name, b"unit") {
+        Some(Order::Unit(read_unit_numbers(rest)?))
+    } else if same_text(name, b"text") {
+        text_fits(rest).then_some(Order::Text)
+    } else if same_text(name, b"room") {
+        Some(Order::Room(number_up_to(LARGEST_ROOM, rest)? as usize))
+    } else if same_text(name, b"fine") {
+        Some(Order::Fine(number_up_to(LARGEST_WORD, rest)? as u32))
+    } else if on && name.len() == 1 {
+        call_order(line)
+    } else {
+        None
     }
-    if same_text(name, b"unit") {
-        return unit_order(rest);
-    }
-    if same_text(name, b"text") {
-        return text_order(rest);
-    }
-    if same_text(name, b"room") {
-        return room_order(rest);
-    }
-    if same_text(name, b"fine") {
-        return fine_order(rest);
-    }
-    if on & (name.len() == 1) {
-        return call_order(line);
-    }
-    Order::Unknown
 }
 
-// `on` says whether a power-on was granted: a line that calls the module or asks for its state before that is unknown.
-pub fn order_of(on: bool, line: &[u8]) -> Order
+// None for a line that is none of the script's. `on` says whether a power-on was granted: before that, a line that calls the module or
+// asks for its state is none.
+pub fn order_of(on: bool, line: &[u8]) -> Option<Order>
     ensures { result ≡ order_of on line.now }
 {
     let first = byte_at(line, 0);
-    if (line.len() < 1) | (first == b'#') {
-        return Order::Nothing;
+    if line.is_empty() || first == b'#' {
+        Some(Order::Nothing)
+    } else if same_text(line, b"on") {
+        Some(Order::On)
+    } else if on && same_text(line, b"state") {
+        Some(Order::State)
+    } else if on && first == b'w' {
+        buffer_order(line)
+    } else if line.contains(&b' ') {
+        named_order(on, line)
+    } else {
+        None
     }
-    if same_text(line, b"on") {
-        return Order::On;
-    }
-    if on & same_text(line, b"state") {
-        return Order::State;
-    }
-    if on & (first == b'w') {
-        return buffer_order(line);
-    }
-    if first_space(line) < line.len() {
-        return named_order(on, line);
-    }
-    Order::Unknown
 }
 
 // The rest of the line, then CR and LF.
@@ -213,12 +146,12 @@ fn command_byte(rest: &[u8], i: usize) -> u8
     ensures { result ≡ command_byte rest.now i }
 {
     if i < rest.len() {
-        return rest[i];
+        rest[i]
+    } else if i == rest.len() {
+        b'\r'
+    } else {
+        b'\n'
     }
-    if i == rest.len() {
-        return b'\r';
-    }
-    b'\n'
 }
 
 // The byte of place `i` among those that a line of `b`, `f` or `>` sends.
@@ -227,7 +160,8 @@ pub fn sent_byte(line: &[u8], i: usize) -> u8
 {
     let rest = from(line, 2);
     if byte_at(line, 0) == b'>' {
-        return command_byte(rest, i);
+        command_byte(rest, i)
+    } else {
+        hex_byte(rest, i).unwrap_or(0)
     }
-    hex_byte(rest, i)
 }

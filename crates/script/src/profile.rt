@@ -1,20 +1,19 @@
 // What a line of the script sets in the profile.
 ghost use Rattle.std.specs.Prelude.{◌≡◌};
-ghost use Rattle.script.specs.Numbers.{number_of};
-ghost use Rattle.script.specs.Words.{first_word};
-ghost use Rattle.script.specs.Settings.{numbers_in, are_numbers, word_of, with_numbers, with_fine, unit_numbers_in, is_named, named_unit, are_unit_numbers, byte_of, with_unit, room_of, text_fits};
+ghost use Rattle.script.specs.Settings.{numbers_in, word_of, with_numbers, with_fine, unit_numbers_in, byte_of, with_unit, text_fits};
 
-use crate::number::number;
-use crate::words::{after_word, first_word, from};
+use crate::number::number_up_to;
+use crate::words::{after_word, first_word};
 use model::{Profile, Readability};
-use text::{UnitRead, byte_at, read_unit};
+use text::read_unit;
 use weight::{WeightUnit, place_of};
 
-pub const LARGEST_WORD: u64 = 4_294_967_295;
+pub const LARGEST_WORD: u64 = u32::MAX as u64;
 
-const LARGEST_BYTE: u64 = 255;
+const LARGEST_BYTE: u64 = u8::MAX as u64;
 
-// C, U, R and W, as they stand in a line.
+// C, U, R and W, as they stand in a line. Each stays a u64: `with_numbers` answers one wider than the profile's field too, and a narrower
+// field would ask more of its callers.
 #[derive(Clone, Copy)]
 pub struct Numbers {
     pub capacity: u64,
@@ -23,157 +22,97 @@ pub struct Numbers {
     pub timeout: u64,
 }
 
-// A unit and its D and K, as they stand in a line.
+// A unit and its D and K, as they stand in a line, and as wide for the sake of `with_unit`.
 #[derive(Clone, Copy)]
 pub struct UnitNumbers {
-    pub unit: UnitRead,
+    pub unit: Option<WeightUnit>,
     pub decimals: u64,
     pub step: u64,
 }
 
-fn first_number(text: &[u8]) -> u64
-    ensures { result ≡ number_of (first_word text.now) }
-{
-    number(first_word(text))
-}
-
 // Each local begins with the number that it is named for.
-pub fn read_numbers(text: &[u8]) -> Numbers
+pub fn read_numbers(text: &[u8]) -> Option<Numbers>
     ensures { result ≡ numbers_in text.now }
 {
     let underload = after_word(text);
     let zeroing = after_word(underload);
-    Numbers {
-        capacity: first_number(text),
-        underload: first_number(underload),
-        zeroing: first_number(zeroing),
-        timeout: number(after_word(zeroing)),
-    }
-}
-
-// Each is a number of its width.
-pub fn are_numbers(numbers: Numbers) -> bool
-    ensures { result ≡ are_numbers numbers }
-{
-    (numbers.capacity <= LARGEST_WORD)
-        & (numbers.underload <= LARGEST_WORD)
-        & (numbers.zeroing <= LARGEST_WORD)
-        & (numbers.timeout <= LARGEST_WORD)
+    Some(Numbers {
+        capacity: number_up_to(LARGEST_WORD, first_word(text))?,
+        underload: number_up_to(LARGEST_WORD, first_word(underload))?,
+        zeroing: number_up_to(LARGEST_WORD, first_word(zeroing))?,
+        timeout: number_up_to(LARGEST_WORD, after_word(zeroing))?,
+    })
 }
 
 fn word_of(n: u64) -> u32
     ensures { result ≡ word_of n }
 {
-    if n <= LARGEST_WORD {
-        return n as u32;
-    }
-    0
+    u32::try_from(n).unwrap_or(0)
 }
 
 // The profile with these numbers, with C for the limit of the fine range, and all else its own.
 pub fn with_numbers(profile: Profile, numbers: Numbers) -> Profile
     ensures { result ≡ with_numbers profile numbers }
 {
-    let mut next = profile;
     let capacity = word_of(numbers.capacity);
-    next.capacity = capacity;
-    next.fine = capacity;
-    next.underload = word_of(numbers.underload);
-    next.zeroing = word_of(numbers.zeroing);
-    next.timeout = word_of(numbers.timeout);
-    next
+    Profile {
+        capacity,
+        fine: capacity,
+        underload: word_of(numbers.underload),
+        zeroing: word_of(numbers.zeroing),
+        timeout: word_of(numbers.timeout),
+        ..profile
+    }
 }
 
 // The profile with this limit of the fine range and all else its own.
 pub fn with_fine(profile: Profile, fine: u32) -> Profile
     ensures { result ≡ with_fine profile fine }
 {
-    let mut next = profile;
-    next.fine = fine;
-    next
+    Profile { fine, ..profile }
 }
 
-pub fn read_unit_numbers(text: &[u8]) -> UnitNumbers
+pub fn read_unit_numbers(text: &[u8]) -> Option<UnitNumbers>
     ensures { result ≡ unit_numbers_in text.now }
 {
+    let unit = read_unit(first_word(text))?;
     let decimals = after_word(text);
-    UnitNumbers {
-        unit: read_unit(first_word(text)),
-        decimals: first_number(decimals),
-        step: number(after_word(decimals)),
-    }
-}
-
-fn is_named(read: UnitRead) -> bool
-    ensures { result ≡ is_named read }
-{
-    match read {
-        UnitRead::Named(_) => true,
-        UnitRead::Unknown => false,
-    }
-}
-
-fn named_unit(read: UnitRead) -> WeightUnit
-    ensures { result ≡ named_unit read }
-{
-    match read {
-        UnitRead::Named(unit) => unit,
-        UnitRead::Unknown => WeightUnit::G,
-    }
-}
-
-pub fn are_unit_numbers(numbers: UnitNumbers) -> bool
-    ensures { result ≡ are_unit_numbers numbers }
-{
-    let read = numbers.unit;
-    is_named(read) & (numbers.decimals <= LARGEST_BYTE) & (numbers.step <= LARGEST_BYTE)
+    Some(UnitNumbers {
+        unit: Some(unit),
+        decimals: number_up_to(LARGEST_BYTE, first_word(decimals))?,
+        step: number_up_to(LARGEST_BYTE, after_word(decimals))?,
+    })
 }
 
 fn byte_of(n: u64) -> u8
     ensures { result ≡ byte_of n }
 {
-    if n <= LARGEST_BYTE {
-        return n as u8;
-    }
-    0
+    u8::try_from(n).unwrap_or(0)
 }
 
 // The profile with these in the row of that unit and all else its own.
 pub fn with_unit(profile: Profile, numbers: UnitNumbers) -> Profile
     ensures { result ≡ with_unit profile numbers }
 {
-    let read = numbers.unit;
-    let place = place_of(named_unit(read)) as usize;
-    let mut rows = profile.readability;
-    rows[place] = Readability {
+    let place = place_of(numbers.unit.unwrap_or(WeightUnit::G)) as usize;
+    let mut readability = profile.readability;
+    readability[place] = Readability {
         decimals: byte_of(numbers.decimals),
         step: byte_of(numbers.step),
     };
-    let mut next = profile;
-    next.readability = rows;
-    next
+    Profile {
+        readability,
+        ..profile
+    }
 }
 
-// How many bytes the text of I2 to I5 holds.
-fn room_of(which: u8) -> usize
-    ensures { result ≡ room_of which }
-{
-    if (which == b'2') | (which == b'3') {
-        return 40;
-    }
-    if (which == b'4') | (which == b'5') {
-        return 20;
-    }
-    0
-}
-
-// A digit from 2 to 5, a space, and what the text holds.
+// A digit from 2 to 5, a space, and what the text of I2 to I5 holds.
 pub fn text_fits(text: &[u8]) -> bool
     ensures { result ≡ text_fits text.now }
 {
-    let which = byte_at(text, 0);
-    let space = byte_at(text, 1);
-    let room = room_of(which);
-    let len = from(text, 2).len();
-    (b'2' <= which) & (which <= b'5') & (space == b' ') & (len <= room)
+    match text {
+        [b'2' | b'3', b' ', rest @ ..] => rest.len() <= 40,
+        [b'4' | b'5', b' ', rest @ ..] => rest.len() <= 20,
+        _ => false,
+    }
 }

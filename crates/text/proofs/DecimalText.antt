@@ -1,7 +1,7 @@
 -- The parts of a decimal's text together: how long they are, how large the number is, and what is read of the whole from them.
 -- Assumes nothing.
-use mathlib.Core.Path.{◌≡◌, refl, ◌∙◌, sym, ap, subst}
-use mathlib.Core.Bool.{Bool, true, false, cond, not, ◌&&◌, ◌||◌, and-false, and-true, and_assoc, and-eq-true_iff, true≢false}
+use mathlib.Core.Path.{◌≡◌, refl, ◌∙◌, sym}
+use mathlib.Core.Bool.{Bool, true, false, not, ◌&&◌, ◌||◌, and-false, and-true, and-eq-true_iff, true≢false}
 use mathlib.Core.List.{List, [], ◌∷◌}
 use Prim.Native.Nat.{ℕ, suc, ◌+◌, ◌-◌, ◌*◌, ◌^◌, ◌≤◌, ◌<◌}
 use native.Mathlib.Nat.{add-zero, zero-add, add-suc, suc-add, pow-suc, one-le-pow, pow-le-pow_right}
@@ -10,10 +10,12 @@ use lib.Dec.{eqb, leb}
 use lib.ListN.{length, take, drop, length-drop}
 use lib.Seq.{length-take-le}
 use borrow.Author.Tests.{le-ltb, lt-ltb, le-leb, lt-leb, leb-true, eqb-true}
+use Rattle.std.specs.Prelude.{Some, None}
 use Rattle.weight.specs.Characters.{point}
-use Rattle.text.specs.Decimals.{TenDigits, ReadsWhole, ReadsDecimal}
+use Rattle.text.specs.Decimals.{TenDigits, read_whole, read_decimal}
 use Rattle.text.specs.Searching.{FirstAt}
 use Rattle.text.specs.Reading.{before_point, after_point, has_point, is_digit, all_digits, number_from, is_number, is_decimal, decimals_in, value_in}
+use Rattle.text.proofs.Chosen.{none_of, some_of}
 use Rattle.text.proofs.Searching.{rest_is, none_between, sides_short}
 
 -- both of two tests that hold together
@@ -99,7 +101,7 @@ module _ (P : List ℕ → Type 0) (none : P []) (next : (c : ℕ) (t : List ℕ
   decimal_bytes t e = let d = decimal_parts t e in of_sides t (number_parts (before_point t) d.whole).1 d.digits
 
 -- ten characters hold a number below 10^10
-value_small : (t : List ℕ) → length t ≤ 10 → is_decimal t ≡ true → value_in t < 10_000_000_000
+pub value_small : (t : List ℕ) → length t ≤ 10 → is_decimal t ≡ true → value_in t < 10_000_000_000
 unfolding value_in
 value_small t short e =
     let d = decimal_parts t e in
@@ -110,28 +112,6 @@ value_small t short e =
 
 -- ---- what is read of a decimal from what is read of its two sides
 
--- three of the promises give the fourth
-reads_decimal : (t : List ℕ) (good : Bool) (decimals value : ℕ)
-    → length t ≤ 10
-    → good ≡ is_decimal t
-    → decimals ≡ cond (is_decimal t) (decimals_in t) 0
-    → value ≡ cond (is_decimal t) (value_in t) 0
-    → ReadsDecimal t good decimals value
-reads_decimal t good decimals value short is places number =
-    record { is = is; places = places; number = number; small = rw number (go (is_decimal t) refl) }
-  where
-    go : (b : Bool) → is_decimal t ≡ b → cond b (value_in t) 0 < 10_000_000_000
-    go true e = value_small t short e
-    go false e = omega arith
-
--- what is no decimal is read as none
-no_decimal : (t : List ℕ) → length t ≤ 10 → is_decimal t ≡ false → ReadsDecimal t false 0 0
-no_decimal t short e = reads_decimal t false 0 0 short (sym e) (rw e) (rw e)
-
--- what is read of equal texts is the same
-whole_of : {s t : List ℕ} {start value : ℕ} {good : Bool} → s ≡ t → ReadsWhole s start good value → ReadsWhole t start good value
-whole_of {start} {value} {good} e r = subst (λ (l : List ℕ). ReadsWhole l start good value) e r
-
 -- the test of a decimal, with and without a point
 pointed : (t : List ℕ) → has_point t ≡ true → is_decimal t ≡ is_number (before_point t) && (is_number (after_point t) && leb (length (after_point t)) 6)
 unfolding is_decimal
@@ -141,84 +121,62 @@ unpointed : (t : List ℕ) → has_point t ≡ false → is_decimal t ≡ is_num
 unfolding is_decimal
 unpointed t e = rw e (and-true (is_number (before_point t)))
 
--- 0 in either case
-nought : (b : Bool) → ◌≡◌ {A = ℕ} 0 (cond b 0 0)
-nought true = refl
-nought false = refl
-
 -- the sides of the point as slices, and what is read of them
-module _ (t : List ℕ) (i : ℕ) (p : FirstAt point t i) (short : length t ≤ 10) where
-  pub whole_length : i ≡ length (take i t)
+module _ (t : List ℕ) (i : ℕ) (p : FirstAt point t i) where
+  whole_length : i ≡ length (take i t)
   whole_length = sym (length-take-le i t p.in_text)
 
-  pub whole_room : TenDigits (take i t) 0
-  whole_room =
+  pub whole_room : length t ≤ 10 → TenDigits (take i t) 0
+  whole_room short =
       record { short = omega (arith, whole_length, p.in_text); small = one-le-pow (10 - length (take i t)) 10 (omega arith) }
 
   fraction : take (length t - (i + 1)) (drop (i + 1) t) ≡ after_point t
   fraction = rest_is (i + 1) t ∙ p.after
 
-  count : length t - (i + 1) ≡ length (after_point t)
-  count = sym (length-drop (i + 1) t) ∙ ap length p.after
+  whole_is : {v : ℕ} → read_whole 0 (take i t) ≡ Some v → (is_number (before_point t) ≡ true) × (number_from 0 (before_point t) ≡ v)
+  whole_is e = some_of (is_number (before_point t)) (number_from 0 (before_point t)) (rw p.before at e)
 
   -- the digits after the point find room for the number before it
-  pub fraction_room : {good : Bool} {v : ℕ} → ReadsWhole (take i t) 0 good v → i < length t
-      → TenDigits (take (length t - (i + 1)) (drop (i + 1) t)) v
-  fraction_room {v} r h =
+  pub fraction_room : {v : ℕ} → length t ≤ 10 → read_whole 0 (take i t) ≡ Some v → i < length t → TenDigits (take (length t - (i + 1)) (drop (i + 1) t)) v
+  fraction_room {v} short e h =
       let n : length (take (length t - (i + 1)) (drop (i + 1) t)) ≡ length t - (i + 1) = rw (rest_is (i + 1) t) (length-drop (i + 1) t) in
-      record { short = omega arith; small = rw (n, r.number) (go (is_number (take i t)) refl) }
-    where
-      top : 10 ^ i ≤ 10 ^ (10 - (length t - (i + 1)))
-      top = pow-le-pow_right {n = 10} (omega arith) (omega arith)
+      let w = some_of (is_number (take i t)) (number_from 0 (take i t)) e in
+      let small = number_small (take i t) 0 0 (number_parts (take i t) w.0).1 (omega arith) in
+      let same : 10 ^ (0 + length (take i t)) ≡ 10 ^ i = rw (zero-add (length (take i t)), ← whole_length) in
+      let top : 10 ^ i ≤ 10 ^ (10 - (length t - (i + 1))) = pow-le-pow_right {n = 10} (omega arith) (omega arith) in
+      record { short = omega arith; small = rw (n, ← w.1) (omega (arith, small, same, top)) }
 
-      go : (b : Bool) → is_number (take i t) ≡ b → cond b (number_from 0 (take i t)) 0 < 10 ^ (10 - (length t - (i + 1)))
-      go true e =
-          let small = number_small (take i t) 0 0 (number_parts (take i t) e).1 (omega arith) in
-          let same : 10 ^ (0 + length (take i t)) ≡ 10 ^ i = rw (zero-add (length (take i t)), ← whole_length) in
-          omega (arith, small, same, top)
-      go false e = one-le-pow (10 - (length t - (i + 1))) 10 (omega arith)
+  -- no digits before the point
+  pub no_whole : read_whole 0 (take i t) ≡ None → None ≡ read_decimal t
+  unfolding is_decimal
+  no_whole e = rw (none_of (is_number (before_point t)) (number_from 0 (before_point t)) (rw p.before at e))
 
   -- no point
-  pub whole_only : {good : Bool} {v : ℕ} → ReadsWhole (take i t) 0 good v → length t ≤ i → ReadsDecimal t good 0 v
+  pub whole_only : {v : ℕ} → read_whole 0 (take i t) ≡ Some v → length t ≤ i → Some (record { decimals = 0; value = v }) ≡ read_decimal t
   unfolding decimals_in value_in
-  whole_only {good} {v} r h =
+  whole_only e h =
       let bare : has_point t ≡ false = sym p.has ∙ le-ltb i (length t) h in
-      let w = whole_of p.before r in
-      let d = unpointed t bare in
-      let none = (none_between point t bare).1 in
-      reads_decimal t good 0 v short (w.is ∙ sym d) (rw none (nought (is_decimal t))) (rw (d, none) w.number)
+      let w = whole_is e in
+      rw (unpointed t bare, w.0, (none_between point t bare).1, w.1)
 
-  -- digits on both sides of the point, six at most after it
-  pub with_fraction : {good good' : Bool} {v v' : ℕ} → ReadsWhole (take i t) 0 good v
-      → ReadsWhole (take (length t - (i + 1)) (drop (i + 1) t)) v good' v'
-      → i < length t → good && good' ≡ true → length t - (i + 1) ≤ 6 → ReadsDecimal t true (length t - (i + 1)) v'
-  unfolding decimals_in value_in
-  with_fraction {good} {good'} {v} {v'} r r' h g few =
-      let w = whole_of p.before r in
-      let f = whole_of fraction r' in
-      let gs = both good good' g in
-      let wn : is_number (before_point t) ≡ true = sym w.is ∙ gs.0 in
-      let fn : is_number (after_point t) ≡ true = sym f.is ∙ gs.1 in
-      let six : leb (length (after_point t)) 6 ≡ true = le-leb (length (after_point t)) 6 (omega (arith, count)) in
-      let d : is_decimal t ≡ true = pointed t (sym p.has ∙ lt-ltb i (length t) h) ∙ rw (wn, fn, six) in
-      reads_decimal t true (length t - (i + 1)) v' short (sym d) (rw d count)
-      (f.number ∙ rw (d, fn, w.number, wn))
+  module _ {v : ℕ} (e : read_whole 0 (take i t) ≡ Some v) (h : i < length t) where
+    sides : is_decimal t ≡ is_number (after_point t) && leb (length (after_point t)) 6
+    sides = pointed t (sym p.has ∙ lt-ltb i (length t) h) ∙ rw (whole_is e).0
 
-  -- more than six after it
-  pub long_fraction : i < length t → 6 < length t - (i + 1) → ReadsDecimal t false 0 0
-  long_fraction h many =
-      let over : leb (length (after_point t)) 6 ≡ false = lt-leb (length (after_point t)) 6 (omega (arith, count)) in
-      no_decimal t short
-      (pointed t (sym p.has ∙ lt-ltb i (length t) h) ∙ rw (over, and-false (is_number (after_point t))) (and-false (is_number (before_point t))))
+    -- no digits after the point
+    pub no_fraction : read_whole v (take (length t - (i + 1)) (drop (i + 1) t)) ≡ None → None ≡ read_decimal t
+    no_fraction f = rw (sides, none_of (is_number (after_point t)) (number_from v (after_point t)) (rw fraction at f))
 
-  -- no digits on one side of it
-  pub stray_side : {good good' : Bool} {v v' : ℕ} → ReadsWhole (take i t) 0 good v
-      → ReadsWhole (take (length t - (i + 1)) (drop (i + 1) t)) v good' v'
-      → i < length t → good && good' ≡ false → ReadsDecimal t false 0 0
-  stray_side {good} {good'} r r' h g =
-      let w = whole_of p.before r in
-      let f = whole_of fraction r' in
-      no_decimal t short
-      (pointed t (sym p.has ∙ lt-ltb i (length t) h)
-      ∙ sym (and_assoc (is_number (before_point t)) (is_number (after_point t)) (leb (length (after_point t)) 6))
-      ∙ rw (← w.is, ← f.is, g))
+    -- more than six
+    pub long_fraction : 6 < length (take (length t - (i + 1)) (drop (i + 1) t)) → None ≡ read_decimal t
+    long_fraction many =
+        rw (sides, lt-leb (length (after_point t)) 6 (rw fraction at many), and-false (is_number (after_point t)))
+
+    -- six at most
+    pub with_fraction : {n : ℕ} → read_whole v (take (length t - (i + 1)) (drop (i + 1) t)) ≡ Some n
+        → length (take (length t - (i + 1)) (drop (i + 1) t)) ≤ 6
+        → Some (record { decimals = length (take (length t - (i + 1)) (drop (i + 1) t)); value = n }) ≡ read_decimal t
+    unfolding decimals_in value_in
+    with_fraction f few =
+        let w = some_of (is_number (after_point t)) (number_from v (after_point t)) (rw fraction at f) in
+        rw (sides, fraction, w.0, le-leb (length (after_point t)) 6 (rw fraction at few), (whole_is e).1, w.1)

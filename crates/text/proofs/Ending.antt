@@ -3,7 +3,7 @@
 use mathlib.Core.Path.{◌≡◌, refl, sym, ◌∙◌}
 use mathlib.Core.List.{List, [], ◌∷◌, ◌++◌, append_assoc}
 use Prim.Native.Nat.{ℕ, zero, suc, ◌+◌, ◌-◌, ◌/◌, ◌%◌, ◌^◌, ◌≤◌, ◌<◌}
-use native.Mathlib.Nat.{add-zero, sub-zero, div-one, mod-lt, mod-eq_of_lt, lt_of_lt_of_le, pow-le-pow_right}
+use native.Mathlib.Nat.{add-zero, div-one, mod-lt, mod-eq_of_lt, lt_of_lt_of_le, pow-le-pow_right}
 use native.Mathlib.Omega.{arith}
 use mathlib.Core.Bool.{Bool, true, false, not, false≢true}
 use lib.IntN.{ℤ, pos, negsuc, nat_abs}
@@ -17,14 +17,14 @@ use Rattle.weight.proofs.Digits.{length_last_digits, last_digits_cons}
 use Rattle.text.specs.declared.field.Nine.{Nine}
 use Rattle.text.specs.Digits.{Begun}
 use Rattle.text.specs.Field.{digit_count}
-use Rattle.text.proofs.Between.{between, between_byte, between_after, between_length, between_end}
+use Rattle.text.proofs.Between.{between, between_length, between_end}
 use Rattle.text.proofs.HighestFirst.{count_least, count_done, count_above, count_ten, last_of_rest, all_last}
 
 less_one : (k : ℕ) → suc k - 1 ≡ k
 less_one k = omega arith
 
 -- a number without decimals is its digits
-pub decimal_whole : (d m : ℕ) → d < 1 → decimal_of d m ≡ digits_of m
+decimal_whole : (d m : ℕ) → d < 1 → decimal_of d m ≡ digits_of m
 unfolding decimal_of
 decimal_whole zero m h = refl
 decimal_whole (suc d) m h = absurd (omega arith)
@@ -35,7 +35,7 @@ unfolding decimal_of
 decimal_parts zero m h = elim h [ ]
 decimal_parts (suc d) m h = refl
 
-pub length_decimal_parts : (d m : ℕ) → 1 ≤ d → length (decimal_of d m) ≡ length (digits_of (m / 10 ^ d)) + suc d
+length_decimal_parts : (d m : ℕ) → 1 ≤ d → length (decimal_of d m) ≡ length (digits_of (m / 10 ^ d)) + suc d
 length_decimal_parts d m h = rw (decimal_parts d m h, length-append, length_last_digits d m)
 
 -- ---- a number of c digits, d of them decimals
@@ -138,9 +138,14 @@ module _ (x : List ℕ) (d m s : ℕ) (e : s + length (decimal_of d m) ≡ lengt
       go zero e = rw (div-one m) (omega (arith, rw (decimal_whole 0 m (omega arith)) at e))
       go (suc d) e = omega (arith, length_decimal_parts (suc d) m (omega arith))
 
-  pub whole_long : (z : List ℕ) → z ≡ take s x ++ digits_of (m / 10 ^ d) ++ drop (s + length (digits_of (m / 10 ^ d))) x → length z ≡ length x
+  whole_long : (z : List ℕ) → z ≡ take s x ++ digits_of (m / 10 ^ d) ++ drop (s + length (digits_of (m / 10 ^ d))) x → length z ≡ length x
   unfolding between
   whole_long z g = rw g (between_length x s (s + length (digits_of (m / 10 ^ d))) (digits_of (m / 10 ^ d)) refl whole_room)
+
+-- no byte is lost
+pub laid_long : (x y z : List ℕ) (d m : ℕ) (n : Nine) → Begun x d m y n
+    → z ≡ take n.at y ++ last_digits (n.high - d) (n.value / 10 ^ d) ++ drop (n.at + (n.high - d)) y → length z ≡ length x
+laid_long x y z d m n b e = whole_long x d m n.start b.start z (whole_laid x y z d m n b e)
 
 -- without decimals that is all
 pub whole_done : (x z : List ℕ) (d m s : ℕ) → d < 1 → s + length (decimal_of d m) ≡ length x
@@ -168,22 +173,6 @@ parts_done x y z d m s r h e g f k =
     let before : take (length y - d - 1) y ≡ take s x ++ whole =
     rw (point_at, g) (take_at (take s x ++ whole) (drop (s + length whole) x) (s + length whole) front) in
     k ∙ rw (before, f, last_of_rest d m, decimal_parts d m h) (append_assoc (take s x) whole (point ∷ last_digits d m))
-
--- the point and the decimals themselves
-pub decimals_done : (x y : List ℕ) (d v : ℕ) → d + 1 ≤ length x
-    → y ≡ take (length x - d - 1 + 1) (set x (length x - d - 1) point) ++ last_digits (d - 0) (v / 10 ^ 0) ++ drop (length x - d - 1 + 1 + (d - 0)) (set x (length x - d - 1) point)
-    → y ≡ take (length x - d - 1) x ++ point ∷ last_digits d v
-unfolding between
-decimals_done x y d v l e =
-    let n = length x in
-    let to_end : n - d - 1 + 1 + (d - 0) ≡ n = omega arith in
-    let digits : last_digits (d - 0) (v / 10 ^ 0) ≡ last_digits d v = rw (sub-zero d, div-one v) in
-    let laid : set x (n - d - 1) point ≡ between x (n - d - 1) (point ∷ []) (n - d - 1 + 1) = between_byte x (n - d - 1) point (omega arith) in
-    let after : y ≡ between (between x (n - d - 1) (point ∷ []) (n - d - 1 + 1)) (n - d - 1 + 1) (last_digits (d - 0) (v / 10 ^ 0)) (n - d - 1 + 1 + (d - 0)) =
-    e ∙ rw laid in
-    after
-    ∙ (between_after x (n - d - 1) (n - d - 1 + 1) (point ∷ []) refl (omega arith) (d - 0) (last_digits (d - 0) (v / 10 ^ 0))
-    ∙ rw (to_end, digits) (between_end x (n - d - 1) (point ∷ last_digits d v)))
 
 -- a number's size has room where the number has, and a minus has room before it
 pub size_room : (d m k : ℕ) (n : ℤ) → m ≡ nat_abs n → width_of d n ≤ k → length (decimal_of d m) ≤ k

@@ -1,136 +1,88 @@
--- What is read of a field: the minus, the zeros that lead and the whole.
+-- What is read of a field: the minus, the number and the whole.
 -- Assumes nothing.
-use mathlib.Core.Path.{◌≡◌, refl, ◌∙◌, sym, ap, subst}
-use mathlib.Core.Bool.{Bool, true, false, cond, not, ◌&&◌, ◌||◌, or-true, or-false}
-use mathlib.Core.List.{List, [], ◌∷◌}
-use Prim.Native.Nat.{ℕ, suc, ◌-◌, ◌≤◌, ◌<◌}
+use mathlib.Core.Path.{◌≡◌, refl, ◌∙◌, sym, ap}
+use mathlib.Core.Bool.{Bool, true, false, cond, not, ◌&&◌, ◌||◌}
+use mathlib.Core.List.{List}
+use Prim.Native.Nat.{ℕ, ◌≤◌}
 use native.Mathlib.Omega.{arith}
-use lib.Dec.{eqb, leb, ltb, leb-suc-suc}
-use lib.IntN.{ℤ}
-use lib.ListN.{length, get_or, take, drop, length-drop, length-take}
+use lib.Dec.{eqb}
+use lib.ListN.{length, get_or, take, drop, length-drop}
 use lib.Seq.{take_all}
 use borrow.Author.Tests.{eq-eqb, ne_eqb}
-use Rattle.text.specs.declared.reading.FieldRead.{FieldRead}
-use Rattle.text.specs.declared.reading.FieldRead.TheVariants.{Number, NoNumber}
+use Rattle.std.specs.Prelude.{Option, Some, None}
 use Rattle.weight.specs.declared.rounding.LastPlaces.{LastPlaces}
-use Rattle.weight.specs.Characters.{space, minus, point}
+use Rattle.weight.specs.Characters.{space}
 use Rattle.weight.specs.Places.{signed, signed_places, characters_in}
-use Rattle.text.specs.Decimals.{ReadsDecimal, MinusAt}
-use Rattle.text.specs.Reading.{before_point, has_minus, after_minus, no_leading_zero, is_decimal, value_in, decimals_in, is_written, read_number, read_field, after_spaces, coarsely}
-use Rattle.text.proofs.DecimalText.{both}
 use Rattle.weight.proofs.SignedPlaces.{signed_within}
-use Rattle.text.specs.Searching.{FirstAt}
-use Rattle.text.proofs.Searching.{rest_is, first_length}
+use Rattle.text.specs.declared.reading.Decimal.{Decimal}
+use Rattle.text.specs.declared.reading.FieldNumber.{FieldNumber}
+use Rattle.text.specs.Decimals.{read_decimal}
+use Rattle.text.specs.Reading.{before_point, has_minus, after_minus, no_leading_zero, is_decimal, value_in, decimals_in, is_written, read_number, read_field, after_spaces, coarsely}
+use Rattle.text.proofs.Chosen.{none_of, some_of}
+use Rattle.text.proofs.DecimalText.{value_small}
 
--- ---- the first byte
+-- ---- the number
 
--- an empty text, a minus and any other byte
-pub nothing_first : (t : List ℕ) → length t < 1 → MinusAt t 0
-nothing_first [] h = record { in_text = omega arith; after = refl; has = refl }
-nothing_first (c ∷ t) h = absurd (omega arith)
-
-pub minus_first : (t : List ℕ) → 1 ≤ length t → get_or t 0 0 ≡ minus → MinusAt t 1
-minus_first [] h e = absurd (omega arith)
-minus_first (c ∷ t) h e = let m = eq-eqb c minus e in record { in_text = omega arith; after = rw m; has = rw m }
-
-pub other_first : (t : List ℕ) → 1 ≤ length t → (get_or t 0 0 ≡ minus → ⊥) → MinusAt t 0
-other_first [] h e = absurd (omega arith)
-other_first (c ∷ t) h n = let m = ne_eqb c minus n in record { in_text = omega arith; after = rw m; has = rw m }
-
--- ---- the zeros that lead
-
--- none does in an empty text, or before another byte
-pub nothing_leads : (t : List ℕ) → length t < 1 → true ≡ no_leading_zero (before_point t)
-nothing_leads [] h = refl
-nothing_leads (c ∷ t) h = absurd (omega arith)
-
-pub other_leads : (t : List ℕ) → 1 ≤ length t → (get_or t 0 0 ≡ 48 → ⊥) → true ≡ no_leading_zero (before_point t)
-other_leads [] h n = absurd (omega arith)
-other_leads (c ∷ t) h n = by (eqb c point)
+after_minus_short : (t : List ℕ) → length t ≤ 10 → length (after_minus t) ≤ 10
+after_minus_short t h = by (has_minus t)
   where
-    by : (b : Bool) → true ≡ no_leading_zero (cond b [] (c ∷ before_point t))
-    by true = refl
-    by false = sym (ap (λ (z : Bool). leb (suc (length (before_point t))) 1 || not z) (ne_eqb c 48 n) ∙ or-true (leb (suc (length (before_point t))) 1))
+    by : (b : Bool) → length (cond b (drop 1 t) t) ≤ 10
+    by true = omega (arith, length-drop 1 t)
+    by false = h
 
--- a zero does unless it is the only byte before the point
-pub zero_leads : (t : List ℕ) {i : ℕ} → 1 ≤ length t → get_or t 0 0 ≡ 48 → FirstAt point t i → ltb i 2 ≡ no_leading_zero (before_point t)
-zero_leads [] h e p = absurd (omega arith)
-zero_leads (c ∷ t) {i} h e p =
-    rw (first_length point (c ∷ t) i p, e)
-    (leb-suc-suc (suc (length (before_point t))) 1 ∙ sym (or-false (leb (suc (length (before_point t))) 1)))
+-- two tests that fail
+neither : (a b : Bool) → b && not a ≡ not (a || not b)
+neither true true = refl
+neither true false = refl
+neither false true = refl
+neither false false = refl
 
--- ---- the whole number
+module _ (t a : List ℕ) (b : Bool) (m : b ≡ has_minus t) (s : a ≡ after_minus t) where
+  -- what follows the minus is no decimal
+  pub no_number : read_decimal a ≡ None → None ≡ read_number t
+  unfolding read_number is_written
+  no_number e =
+      rw (none_of (is_decimal (after_minus t)) (record { decimals = decimals_in (after_minus t); value = value_in (after_minus t) }) (rw s at e))
 
--- what follows the first i bytes is no longer than the text
-pub rest_short : (t : List ℕ) (i : ℕ) → length t ≤ 10 → length (take (length t - i) (drop i t)) ≤ 10
-rest_short t i h = rw (rest_is i t, length-drop i t) (omega arith)
+  module _ (x : Decimal) (e : read_decimal a ≡ Some x) where
+    is : (is_decimal (after_minus t) ≡ true) × (record { decimals = decimals_in (after_minus t); value = value_in (after_minus t) } ≡ x)
+    is = some_of (is_decimal (after_minus t)) (record { decimals = decimals_in (after_minus t); value = value_in (after_minus t) }) (rw s at e)
 
-module _ (t : List ℕ) (i : ℕ) (m : MinusAt t i) (good shortest : Bool) (d v : ℕ)
-    (r : ReadsDecimal (take (length t - i) (drop i t)) good d v)
-    (s : shortest ≡ no_leading_zero (before_point (take (length t - i) (drop i t)))) where
-  digits : take (length t - i) (drop i t) ≡ after_minus t
-  digits = rest_is i t ∙ m.after
+    -- the code's test is the definition's
+    written : is_written t ≡ not ((b && eqb x.value 0) || not (no_leading_zero (before_point a)))
+    unfolding is_written
+    written = rw (is.0, m, s, ← is.1) (neither (has_minus t && eqb (value_in (after_minus t)) 0) (no_leading_zero (before_point (after_minus t))))
 
-  decimal : ReadsDecimal (after_minus t) good d v
-  decimal = subst (λ (l : List ℕ). ReadsDecimal l good d v) digits r
+    pub not_written : (b && eqb x.value 0) || not (no_leading_zero (before_point a)) ≡ true → None ≡ read_number t
+    unfolding read_number
+    not_written f = rw (written ∙ ap not f)
 
-  -- the code's test is the definition's
-  written : good && shortest && not (ltb 0 i && eqb v 0) ≡ is_written t
-  unfolding is_written
-  written = rw (decimal.is, s, digits, m.has) (go (is_decimal (after_minus t)) refl)
-    where
-      go : (b : Bool)
-          → is_decimal (after_minus t) ≡ b
-          → b && no_leading_zero (before_point (after_minus t)) && not (has_minus t && eqb v 0)
-          ≡ b && no_leading_zero (before_point (after_minus t)) && not (has_minus t && eqb (value_in (after_minus t)) 0)
-      go true e = rw (decimal.number, e)
-      go false e = refl
-
-  -- the test holds: the number
-  pub read_written : (p : LastPlaces) → good && shortest && not (ltb 0 i && eqb v 0) ≡ true → p.0 ≡ signed_places (ltb 0 i) v → Number d p false ≡ read_number t
-  unfolding read_number
-  read_written p e q =
-      let g : good ≡ true = (both good shortest (both (good && shortest) (not (ltb 0 i && eqb v 0)) e).0).0 in
-      let is : is_decimal (after_minus t) ≡ true = sym decimal.is ∙ g in
-      let dn : d ≡ decimals_in (after_minus t) = decimal.places ∙ rw is in
-      let vn : v ≡ value_in (after_minus t) = decimal.number ∙ rw is in
-      let z : p.0 ≡ signed (has_minus t) (value_in (after_minus t)) = q ∙ signed_within (ltb 0 i) v r.small ∙ rw (m.has, vn) in
-      rw (sym written ∙ e)
-      (ap (λ (x : ℕ). Number x p false) dn ∙ ap (λ (x : ℤ). Number (decimals_in (after_minus t)) (record { 0 = x }) false) z)
-
-  -- the test fails: none
-  pub not_written : good && shortest && not (ltb 0 i && eqb v 0) ≡ false → NoNumber ≡ read_number t
-  unfolding read_number
-  not_written e = rw (sym written ∙ e)
+    pub read_written : (p : LastPlaces) → length t ≤ 10 → (b && eqb x.value 0) || not (no_leading_zero (before_point a)) ≡ false
+        → p.0 ≡ signed_places b x.value → Some (record { decimals = x.decimals; places = p; coarse = false }) ≡ read_number t
+    unfolding read_number
+    read_written p short f q =
+        let small = value_small (after_minus t) (after_minus_short t short) is.0 in
+        let value : x.value ≡ value_in (after_minus t) = sym (ap (λ (n : Decimal). n.value) is.1) in
+        let places : p.0 ≡ signed (has_minus t) (value_in (after_minus t)) = q ∙ rw (value, m) (signed_within (has_minus t) (value_in (after_minus t)) small) in
+        rw (written ∙ ap not f, ← is.1, ← places)
 
 -- ---- the field
 
 -- any length but ten
-pub wrong_width : (l : List ℕ) → (length l ≡ 10 → ⊥) → NoNumber ≡ read_field l
+pub wrong_width : (l : List ℕ) → (length l ≡ 10 → ⊥) → None ≡ read_field l
 unfolding read_field
 wrong_width l n = rw (ne_eqb (length l) 10 n)
 
--- the number after the i leading spaces
-pub aligned_read : (l : List ℕ) (i : ℕ) (x : FieldRead) → drop i l ≡ after_spaces l → x ≡ read_number (take (length l - i) (drop i l)) → x ≡ read_number (after_spaces l)
-aligned_read l i x a e = e ∙ ap read_number (rest_is i l ∙ a)
-
--- as one of the coarse range, by its decimals
-pub coarse_number : {x : FieldRead} {d : ℕ} {p : LastPlaces} {c : Bool} → x ≡ Number d p c → (leb 1 d && leb d 5) ≡ true → Number d p true ≡ coarsely x
-coarse_number e h = rw (e, h)
-
-pub coarse_none : {x : FieldRead} {d : ℕ} {p : LastPlaces} {c : Bool} → x ≡ Number d p c → (leb 1 d && leb d 5) ≡ false → NoNumber ≡ coarsely x
-coarse_none e h = rw (e, h)
-
-pub front_short : (l : List ℕ) (w : ℕ) → w ≤ 10 → length (take w l) ≤ 10
-front_short l w h = rw (length-take w l) (omega (arith))
-
 -- ten characters, the last of which is a space or not
-module _ (l : List ℕ) {w : ℕ} {x : FieldRead} (h : length l ≡ 10) (width : w ≡ characters_in (eqb (get_or l 9 0) space))
+module _ (l : List ℕ) {w : ℕ} {x : Option FieldNumber} (h : length l ≡ 10) (width : w ≡ characters_in (eqb (get_or l 9 0) space))
     (e : x ≡ read_number (after_spaces (take w l))) where
-  pub coarse_read : {y : FieldRead} → eqb (get_or l 9 0) space ≡ true → y ≡ coarsely x → y ≡ read_field l
+  pub coarse_read : {y : Option FieldNumber} → get_or l 9 0 ≡ space → y ≡ coarsely x → y ≡ read_field l
   unfolding read_field
-  coarse_read b f = rw (eq-eqb (length l) 10 h, b) (f ∙ ap coarsely (rw (width, b) at e))
+  coarse_read s f =
+      let b = eq-eqb (get_or l 9 0) space s in rw (eq-eqb (length l) 10 h, b) (f ∙ ap coarsely (rw (width, b) at e))
 
-  pub fine_read : eqb (get_or l 9 0) space ≡ false → x ≡ read_field l
+  pub fine_read : (get_or l 9 0 ≡ space → ⊥) → x ≡ read_field l
   unfolding read_field
-  fine_read b = rw (eq-eqb (length l) 10 h, b) (rw (width, b, take_all 10 l (omega (arith, h))) at e)
+  fine_read s =
+      let b = ne_eqb (get_or l 9 0) space s in
+      rw (eq-eqb (length l) 10 h, b) (rw (width, b, take_all 10 l (omega (arith, h))) at e)

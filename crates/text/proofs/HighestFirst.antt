@@ -62,20 +62,10 @@ pub record Counted (v p r b : ℕ) : Type 0 where
   pub rest : r % p ≡ v % p
   pub digits : b + r / p ≡ 48 + v / p
 
-pub counted_none : (v p : ℕ) → Counted v p v 48
-counted_none v p = record { rest = refl; digits = refl }
-
 module _ (v p r b : ℕ) (c : Counted v p r b) where
   -- p goes into what is left
   pub counted_turn : 0 < p → p ≤ r → Counted v p (r - p) (b + 1)
   counted_turn h l = record { rest = sym (mod-eq-sub-mod l) ∙ c.rest; digits = omega (arith, div-eq-sub-div h l, c.digits) }
-
-  pub counted_small : 0 < p → p ≤ r → v / p ≤ 9 → b ≤ 56
-  counted_small h l k = omega (arith, div-eq-sub-div h l, c.digits)
-
-  -- it does not
-  pub counted_rest : r < p → r ≡ v % p
-  counted_rest h = sym (mod-eq_of_lt h) ∙ c.rest
 
   pub counted_digit : r < p → b ≡ digit (v / p)
   counted_digit h = omega (arith, div-eq_of_lt h, c.digits)
@@ -85,17 +75,20 @@ module _ (v p r b : ℕ) (c : Counted v p r b) where
 power : (k : ℕ) → 0 < 10 ^ k
 power k = one-le-pow k 10 (omega arith)
 
+pub turn_power : (j p : ℕ) → p ≡ 10 ^ j → 0 < p
+turn_power j p e = rw e (power j)
+
 -- what the places below k + 1 stand for, beside what stands above them
 module _ (k m : ℕ) where
   parts : m ≡ m % 10 ^ suc k + 10 ^ k * (10 * (m / 10 ^ suc k))
   parts = sym (mod-add-div m (10 ^ suc k)) ∙ rw (pow-suc 10 k, mul_assoc (10 ^ k) 10 (m / (10 ^ k * 10)))
 
   -- the highest place
-  pub place_small : m % 10 ^ suc k / 10 ^ k < 10
+  place_small : m % 10 ^ suc k / 10 ^ k < 10
   place_small =
       (div-lt_iff_lt-mul (power k)).1 (omega (arith, mod-lt m (power (suc k)), pow-suc 10 k))
 
-  pub place_digit : m % 10 ^ suc k / 10 ^ k ≡ m / 10 ^ k % 10
+  place_digit : m % 10 ^ suc k / 10 ^ k ≡ m / 10 ^ k % 10
   place_digit =
       sym (ap (λ (n : ℕ). n / 10 ^ k % 10) parts
       ∙ ap (λ (n : ℕ). n % 10) (add-mul-div_left (m % 10 ^ suc k) (10 * (m / 10 ^ suc k)) (power k))
@@ -103,12 +96,12 @@ module _ (k m : ℕ) where
       ∙ mod-eq_of_lt place_small)
 
   -- and the places below it
-  pub place_rest : m % 10 ^ suc k % 10 ^ k ≡ m % 10 ^ k
+  place_rest : m % 10 ^ suc k % 10 ^ k ≡ m % 10 ^ k
   place_rest =
       sym (ap (λ (n : ℕ). n % 10 ^ k) parts ∙ add-mul-mod_self_left (m % 10 ^ suc k) (10 ^ k) (10 * (m / 10 ^ suc k)))
 
   -- written after the digits above it
-  pub place_text : (n : ℕ) → last_digits (suc n) (m / 10 ^ k) ≡ last_digits n (m / 10 ^ suc k) ++ (digit (m % 10 ^ suc k / 10 ^ k) ∷ [])
+  place_text : (n : ℕ) → last_digits (suc n) (m / 10 ^ k) ≡ last_digits n (m / 10 ^ suc k) ++ (digit (m % 10 ^ suc k / 10 ^ k) ∷ [])
   unfolding last_digits
   place_text n = rw (place_digit, div-div-eq-div-mul m (10 ^ k) 10, pow-suc 10 k)
 
@@ -159,17 +152,11 @@ module _ (d : List ℕ) (a high v : ℕ) (out : List ℕ) (r k e : ℕ) (w : Wri
   ends : a + length (last_digits (high - k) (v / 10 ^ k)) ≡ e
   ends = rw (length_last_digits (high - k) (v / 10 ^ k)) (sym w.cell)
 
-  pub written_long : e ≤ length d → length out ≡ length d
+  written_long : e ≤ length d → length out ≡ length d
   written_long l = rw w.text (between_length d a e (last_digits (high - k) (v / 10 ^ k)) ends l)
 
   -- the place j below k
   module _ (j p : ℕ) (next : k ≡ suc j) (is : p ≡ 10 ^ j) where
-    pub turn_power : 0 < p
-    turn_power = rw is (power j)
-
-    pub turn_digit : r / p ≤ 9
-    turn_digit = rw (w.rest, next, is) (omega (arith, place_small j v))
-
     pub turn_written : (e' r' : ℕ) (out' : List ℕ) → e' ≡ e + 1 → e < length d → r' ≡ r % p → out' ≡ set out e (digit (r / p))
         → Written d a high v out' r' j e'
     turn_written e' r' out' one l f g =

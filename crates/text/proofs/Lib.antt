@@ -1,5 +1,5 @@
 mod Between
-pub mod Cells
+mod Chosen
 pub mod DecimalText
 mod Ending
 mod FieldText
@@ -7,10 +7,8 @@ pub mod FieldWidth
 mod HighestFirst
 pub mod Named
 mod NumberText
-mod Parts
 mod Printing
 pub mod ReadBack
-mod SameText
 pub mod Searching
 pub mod TypedText
 pub mod WriteBack

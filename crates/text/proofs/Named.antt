@@ -3,18 +3,16 @@
 use mathlib.Core.Path.{◌≡◌, refl, ap, ap₂, ◌∙◌}
 use mathlib.Core.Bool.{Bool, true, false, cond}
 use mathlib.Core.List.{List, [], ◌∷◌}
-use Prim.Native.Nat.{ℕ, ◌+◌, ◌≤◌, ◌<◌}
+use Prim.Native.Nat.{ℕ, ◌≤◌}
 use native.Mathlib.Omega.{arith}
-use native.Mathlib.Numerals.{add-one}
 use borrow.Author.Tests.{eq-eqb, eqb-true}
 use lib.Dec.{eqb}
-use lib.ListN.{length, drop, get_or}
-use lib.Seq.{drop-cons}
+use lib.ListN.{length}
 use Rattle.weight.specs.declared.units.WeightUnit.{WeightUnit}
 use Rattle.weight.specs.declared.units.WeightUnit.TheVariants.{G, Mg, Ct, Oz, Ozt, Gn, Dwt, Kg, Lb}
+use Rattle.std.specs.Prelude.{Option, Some}
+use Rattle.std.specs.List.{find}
 use Rattle.weight.specs.Units.{all_units}
-use Rattle.text.specs.declared.unit_texts.UnitRead.{UnitRead}
-use Rattle.text.specs.declared.unit_texts.UnitRead.TheVariants.{Named}
 use Rattle.text.specs.Ascii.{same_text}
 use Rattle.text.specs.UnitTexts.{unit_text, unit_code, unit_mark, first_marked, unit_named, unit_coded}
 use Rattle.weight.proofs.Allowed.{both_left, both_right}
@@ -42,14 +40,11 @@ code_short Dwt = omega arith
 code_short Kg = omega arith
 code_short Lb = omega arith
 
-module _ (coded : Bool) (t : List ℕ) (us : List WeightUnit) (i : ℕ) (h : i < length us) where
-  pub named_here : same_text t (unit_mark coded (get_or us i G)) ≡ true → first_marked coded t (drop i us) ≡ Named (get_or us i G)
-  unfolding first_marked
-  named_here e = rw (drop-cons us i G h, e)
-
-  pub named_later : same_text t (unit_mark coded (get_or us i G)) ≡ false → first_marked coded t (drop i us) ≡ first_marked coded t (drop (i + 1) us)
-  unfolding first_marked
-  named_later e = rw (add-one, drop-cons us i G h, e)
+-- the search among the units
+pub found_first : (coded : Bool) (t : List ℕ) (us : List WeightUnit) → find (λ u. same_text t (unit_mark coded u)) us ≡ first_marked coded t us
+unfolding first_marked
+found_first coded t [] = refl
+found_first coded t (u ∷ us) = ap (λ (r : Option WeightUnit). cond (same_text t (unit_mark coded u)) (Some u) r) (found_first coded t us)
 
 -- ---- what callers use
 
@@ -65,7 +60,7 @@ same_self [] = refl
 same_self (c ∷ t) = rw (eq-eqb c c refl) (same_self t)
 
 -- a unit's text is read as that unit, and so is its code
-pub unit_read_back : (u : WeightUnit) → unit_named (unit_text u) ≡ Named u
+pub unit_read_back : (u : WeightUnit) → unit_named (unit_text u) ≡ Some u
 unfolding unit_named first_marked
 unit_read_back G = refl
 unit_read_back Mg = refl
@@ -77,7 +72,7 @@ unit_read_back Dwt = refl
 unit_read_back Kg = refl
 unit_read_back Lb = refl
 
-pub code_read_back : (u : WeightUnit) → unit_coded (unit_code u) ≡ Named u
+pub code_read_back : (u : WeightUnit) → unit_coded (unit_code u) ≡ Some u
 unfolding unit_coded first_marked
 code_read_back G = refl
 code_read_back Mg = refl
@@ -90,24 +85,24 @@ code_read_back Kg = refl
 code_read_back Lb = refl
 
 -- by the test of the first unit, and else by those after it
-first_by : (coded b : Bool) (t : List ℕ) (v u : WeightUnit) (rest : UnitRead) → same_text t (unit_mark coded v) ≡ b
-    → (rest ≡ Named u → t ≡ unit_mark coded u) → cond b (Named v) rest ≡ Named u → t ≡ unit_mark coded u
+first_by : (coded b : Bool) (t : List ℕ) (v u : WeightUnit) (rest : Option WeightUnit) → same_text t (unit_mark coded v) ≡ b
+    → (rest ≡ Some u → t ≡ unit_mark coded u) → cond b (Some v) rest ≡ Some u → t ≡ unit_mark coded u
 first_by coded true t v u rest s later e =
     let same : v ≡ u = cc in
     same_is t (unit_mark coded v) s ∙ ap (unit_mark coded) same
 first_by coded false t v u rest s later e = later e
 
-first_is : (coded : Bool) (t : List ℕ) (us : List WeightUnit) (u : WeightUnit) → first_marked coded t us ≡ Named u → t ≡ unit_mark coded u
+first_is : (coded : Bool) (t : List ℕ) (us : List WeightUnit) (u : WeightUnit) → first_marked coded t us ≡ Some u → t ≡ unit_mark coded u
 unfolding first_marked
 first_is coded t [] u e = let z : ◌≡◌ {A = ℕ} 0 1 = cc in absurd (omega arith)
 first_is coded t (v ∷ us) u e =
     first_by coded (same_text t (unit_mark coded v)) t v u (first_marked coded t us) refl (first_is coded t us u) e
 
 -- only a unit's own text is read as it, and only its own code
-pub unit_write_back : (t : List ℕ) (u : WeightUnit) → unit_named t ≡ Named u → t ≡ unit_text u
+pub unit_write_back : (t : List ℕ) (u : WeightUnit) → unit_named t ≡ Some u → t ≡ unit_text u
 unfolding unit_named
 unit_write_back t u e = first_is false t all_units u e
 
-pub code_write_back : (t : List ℕ) (u : WeightUnit) → unit_coded t ≡ Named u → t ≡ unit_code u
+pub code_write_back : (t : List ℕ) (u : WeightUnit) → unit_coded t ≡ Some u → t ≡ unit_code u
 unfolding unit_coded
 code_write_back t u e = first_is true t all_units u e

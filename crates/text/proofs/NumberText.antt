@@ -1,23 +1,24 @@
 -- The parts of a number's text, as a search through it meets them: at place i either the part ends or the search goes on.
 -- Assumes nothing.
-use mathlib.Core.Path.{◌≡◌, refl, ◌∙◌, sym, ap}
-use mathlib.Core.Bool.{Bool, true, false, cond, not, ◌&&◌, and-false}
+use mathlib.Core.Path.{◌≡◌, refl, ◌∙◌, ap}
+use mathlib.Core.Bool.{Bool, true, false, cond, not, ◌&&◌, ◌||◌}
 use mathlib.Core.List.{List, [], ◌∷◌}
 use Prim.Native.Nat.{ℕ, suc, ◌+◌, ◌-◌, ◌*◌, ◌^◌, ◌≤◌, ◌<◌}
-use native.Mathlib.Nat.{add-zero, add-suc, pow-suc, pow-le-pow_right}
+use native.Mathlib.Nat.{add-zero, add-suc, pow-suc}
 use native.Mathlib.Numerals.{add-one}
 use native.Mathlib.Omega.{arith}
-use lib.Dec.{leb, eqb}
-use lib.ListN.{length, get_or, drop, drop_of_length-le}
+use lib.Dec.{leb, ltb, eqb}
+use lib.ListN.{length, get_or, drop}
 use lib.Seq.{drop-cons}
-use borrow.Author.Tests.{le-leb, lt-leb, leb-true}
+use Rattle.std.proofs.lemmas.Bool.Decides.{nat_tests}
 use Rattle.classes.specs.Classes.{first_in}
 use Rattle.classes.proofs.Texts.{first_limit}
 use Rattle.classes.proofs.Words.{no_spaces}
+use Rattle.std.specs.Prelude.{None}
 use Rattle.weight.specs.Characters.{space}
-use Rattle.text.specs.Decimals.{TenDigits, ReadsWhole}
+use Rattle.text.specs.Decimals.{TenDigits, read_whole}
 use Rattle.text.specs.Reading.{is_digit, all_digits, number_from, is_number, after_spaces}
-use Rattle.text.proofs.DecimalText.{both, digit_range}
+use Rattle.text.proofs.DecimalText.{both, digit_range, number_parts}
 use Rattle.text.proofs.Printing.{digits_by}
 
 -- ---- the leading spaces
@@ -39,6 +40,16 @@ spaces_counted (c ∷ t) e = rw (e, no_spaces c) (by (eqb c space) (spaces_count
 
 -- ---- digits
 
+-- the code's test is the definition's
+apart : (n i : ℕ) → leb 1 n && leb n i ≡ not (ltb n 1 || ltb i n)
+apart n i = grind (arith, nat_tests)
+
+is_apart : (t : List ℕ) {i : ℕ} → i ≡ first_in 254 t → is_number t ≡ not (ltb (length t) 1 || ltb i (length t))
+is_apart t {i} first = rw (← digits_by t first) (apart (length t) i)
+
+pub no_number : (t : List ℕ) (start : ℕ) {i : ℕ} → i ≡ first_in 254 t → ltb (length t) 1 || ltb i (length t) ≡ true → None ≡ read_whole start t
+no_number t start first h = rw (is_apart t first ∙ ap not h)
+
 -- up to ten digits after start: those below i are passed and stand, with start, for value
 pub record ReadSoFar (t : List ℕ) (start value i : ℕ) : Type 0 where
   pub in_text : i ≤ length t
@@ -49,38 +60,19 @@ pub record ReadSoFar (t : List ℕ) (start value i : ℕ) : Type 0 where
   pub digits : all_digits (drop i t) ≡ true
   pub number : number_from value (drop i t) ≡ number_from start t
 
--- nothing is passed: no byte is of another class than the digits
-pub nothing_read : (t : List ℕ) (start : ℕ) {i : ℕ} → TenDigits t start → 1 ≤ length t → i ≡ first_in 254 t → length t ≤ i → ReadSoFar t start start 0
-nothing_read t start {i} ten some first end =
-    let all : all_digits t ≡ true = sym (digits_by t first) ∙ le-leb (length t) i end in
-    record { in_text = omega arith; some = some; short = ten.short; small = rw (add-zero (10 - length t)) ten.small; all = all; digits = all; number = refl }
-
--- what is no number is read as none
-no_number_lem : (t : List ℕ) (start : ℕ) → is_number t ≡ false → ReadsWhole t start false 0
-no_number_lem t start e = record { is = sym e; number = rw e }
-
--- the empty text
-pub no_digits : (t : List ℕ) (start : ℕ) → length t < 1 → ReadsWhole t start false 0
-no_digits t start h = no_number_lem t start (rw (lt-leb 1 (length t) h))
-
--- a byte of another class than the digits
-pub stray : (t : List ℕ) (start : ℕ) {i : ℕ} → i ≡ first_in 254 t → i < length t → ReadsWhole t start false 0
-stray t start {i} first h =
-    no_number_lem t start
-    (ap (λ (b : Bool). leb 1 (length t) && b) (sym (digits_by t first) ∙ lt-leb (length t) i h) ∙ and-false (leb 1 (length t)))
+-- nothing is passed
+pub nothing_read : (t : List ℕ) (start : ℕ) {i : ℕ} → TenDigits t start → i ≡ first_in 254 t → ltb (length t) 1 || ltb i (length t) ≡ false → ReadSoFar t start start 0
+nothing_read t start ten first h =
+    let parts = number_parts t (is_apart t first ∙ ap not h) in
+    record { in_text = omega arith; some = parts.0; short = ten.short; small = rw (add-zero (10 - length t)) ten.small; all = parts.1; digits = parts.1; number = refl }
 
 module _ (t : List ℕ) (start value i : ℕ) (r : ReadSoFar t start value i) where
   -- the next byte and those after it are digits
   next : i < length t → (is_digit (get_or t i 0) ≡ true) × (all_digits (drop (i + 1) t) ≡ true)
   next h = rw (add-one i) (both (is_digit (get_or t i 0)) (all_digits (drop (suc i) t)) (rw (drop-cons t i 0 h) at r.digits))
 
-  pub digit_here : i < length t → (48 ≤ get_or t i 0) × (get_or t i 0 ≤ 57)
+  digit_here : i < length t → (48 ≤ get_or t i 0) × (get_or t i 0 ≤ 57)
   digit_here h = digit_range (get_or t i 0) (next h).0
-
-  -- before the last digit there are at most nine
-  pub nine_digits : i < length t → value < 1_000_000_000
-  nine_digits h =
-      omega (arith, r.small, pow-le-pow_right {n = 10} (omega arith) {i = 10 - length t + i} {j = 9} (omega (arith, r.short)))
 
   -- a digit
   pub digit_read : i < length t → ReadSoFar t start (value * 10 + (get_or t i 0 - 48)) (i + 1)
@@ -94,9 +86,3 @@ module _ (t : List ℕ) (start value i : ℕ) (r : ReadSoFar t start value i) wh
         digits = (next h).1;
         number = rw (add-one i) (rw (drop-cons t i 0 h) at r.number);
       }
-
-  -- the last digit
-  pub all_read : length t ≤ i → ReadsWhole t start true value
-  all_read h =
-      let e : is_number t ≡ true = rw (le-leb 1 (length t) r.some) r.all in
-      record { is = sym e; number = rw e (rw (drop_of_length-le t h) at r.number) }

@@ -11,12 +11,12 @@ use lib.IntN.{ℤ, pos, negsuc}
 use lib.ListN.{length, get_or, take, replicate, length-append, get_or-append}
 use lib.Seq.{get_or-append_seam, take_at}
 use borrow.Author.Tests.{le-leb, ltb-true, ltb-false, leb-true, eq-eqb, ne_eqb}
-use Rattle.text.specs.declared.reading.FieldRead.TheVariants.{Number}
+use Rattle.std.specs.Prelude.{Some}
 use Rattle.weight.specs.Characters.{space, minus, point, digit}
 use Rattle.weight.specs.Places.{last_digits, digits_of, decimal_of, number_text, width_of, fits_field}
 use Rattle.text.specs.Field.{aligned_in, field_of}
 use Rattle.text.specs.Reading.{before_point, after_point, has_point, is_digit, all_digits, number_from, is_number, is_decimal, decimals_in, value_in}
-use Rattle.text.specs.Reading.{after_spaces, has_minus, no_leading_zero, is_written, read_number, read_field}
+use Rattle.text.specs.Reading.{after_spaces, has_minus, no_leading_zero, is_written, field_number, read_number, read_field}
 use Rattle.text.specs.Typed.{is_typed}
 use Rattle.weight.proofs.Digits.{digits_small, digits_step, length_last_digits, last_digits_cons}
 use Rattle.weight.proofs.Width.{fits_width, fits_decimals}
@@ -201,7 +201,7 @@ decimal_back (suc d) m h =
 
 -- what is read of a text that no space leads
 record NumberBack (d : ℕ) (n : ℤ) (t : List ℕ) : Type 0 where
-  read : read_number t ≡ Number d (record { 0 = n }) false
+  read : read_number t ≡ Some (field_number d n false)
   first : after_spaces t ≡ t
 
 -- no digit is a minus or a space
@@ -277,19 +277,19 @@ last_no_space a t w e long =
 
 module _ (d : ℕ) (n : ℤ) where
   -- reading what is right aligned in w characters
-  aligned_back : (w : ℕ) → d ≤ 6 → read_number (after_spaces (aligned_in w d n)) ≡ Number d (record { 0 = n }) false
+  aligned_back : (w : ℕ) → d ≤ 6 → read_number (after_spaces (aligned_in w d n)) ≡ Some (field_number d n false)
   aligned_back w few =
       let b = number_back d n few in
       rw (spaces_off (w - width_of d n) (number_text d n) b.first) b.read
 
-  fine_back : fits_field false d n ≡ true → read_field (field_of false d n) ≡ Number d (record { 0 = n }) false
+  fine_back : fits_field false d n ≡ true → read_field (field_of false d n) ≡ Some (field_number d n false)
   unfolding field_of read_field
   fine_back e =
       let long = aligned_length 10 d n (fits_width false d n e) in
       rw (eq-eqb (length (aligned_in 10 d n)) 10 long, last_no_space (replicate (10 - width_of d n) space) (number_text d n) 9 (number_end d n) long)
       (aligned_back 10 (leb-true d 6 (fits_decimals false d n e)))
 
-  coarse_back : fits_field true d n ≡ true → read_field (field_of true d n) ≡ Number d (record { 0 = n }) true
+  coarse_back : fits_field true d n ≡ true → read_field (field_of true d n) ≡ Some (field_number d n true)
   unfolding field_of read_field
   coarse_back e =
       let a = aligned_in 9 d n in
@@ -308,7 +308,7 @@ module _ (d : ℕ) (n : ℤ) where
       )
 
 -- reading what was written gives the number, the decimals and the range back
-pub read_back : (c : Bool) (d : ℕ) (n : ℤ) → fits_field c d n ≡ true → read_field (field_of c d n) ≡ Number d (record { 0 = n }) c
+pub read_back : (c : Bool) (d : ℕ) (n : ℤ) → fits_field c d n ≡ true → read_field (field_of c d n) ≡ Some (field_number d n c)
 read_back true d n e = coarse_back d n e
 read_back false d n e = fine_back d n e
 

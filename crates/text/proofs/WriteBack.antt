@@ -11,15 +11,15 @@ use lib.IntN.{ℤ, pos, neg_ℤ}
 use lib.ListN.{length, get_or, take, drop, replicate, length-append, length-replicate}
 use lib.Seq.{append_snoc, length-take-le, take_all, take-suc}
 use borrow.Author.Tests.{le-leb, lt-leb, eqb-true, eqb-false, not-true}
-use Rattle.text.specs.declared.reading.FieldRead.{FieldRead}
-use Rattle.text.specs.declared.reading.FieldRead.TheVariants.{Number, NoNumber}
-use Rattle.weight.specs.declared.rounding.LastPlaces.{LastPlaces}
+use Rattle.std.specs.Prelude.{Option, Some, None}
+use Rattle.text.specs.declared.reading.FieldNumber.{FieldNumber}
 use Rattle.weight.specs.Characters.{space, minus, point, digit}
 use Rattle.weight.specs.Places.{last_digits, digits_of, decimal_of, number_text, width_of, fits_field, signed}
 use Rattle.text.specs.Field.{aligned_in, field_of}
 use Rattle.text.specs.Reading.{before_point, after_point, has_point, is_digit, all_digits, number_from, is_number, is_decimal, decimals_in, value_in}
-use Rattle.text.specs.Reading.{after_spaces, has_minus, after_minus, no_leading_zero, is_written, read_number, coarsely, read_field}
+use Rattle.text.specs.Reading.{after_spaces, has_minus, after_minus, no_leading_zero, is_written, field_number, read_number, coarsely, read_field}
 use Rattle.weight.proofs.Digits.{digits_small, digits_step, last_digits_cons}
+use Rattle.text.proofs.Chosen.{taken, some_of}
 use Rattle.text.proofs.DecimalText.{both, digit_range, DecimalParts, decimal_parts, number_parts}
 use Rattle.text.proofs.ReadBack.{shifted}
 use Rattle.text.proofs.Searching.{first_between, none_between}
@@ -165,26 +165,23 @@ spaces_back (c ∷ l) = go (eqb c space) refl (spaces_back l)
     go true e r = (suc r.0, ap (λ (x : ℕ). x ∷ l) (eqb-true c space e) ∙ ap (λ (x : List ℕ). space ∷ x) r.1)
     go false e r = (0, refl)
 
--- a case that gives a number was taken, and gives that number
-taken : (b : Bool) (x : FieldRead) (d : ℕ) (p : LastPlaces) (c : Bool) → cond b x NoNumber ≡ Number d p c → (b ≡ true) × (x ≡ Number d p c)
-taken true x d p c e = (refl, e)
-taken false x d p c e = let z : ◌≡◌ {A = ℕ} 0 1 = cc in absurd (omega arith)
-
 -- equal readings have equal parts
-same_number : (a b : ℕ) (p q : LastPlaces) (c e : Bool) → Number a p c ≡ Number b q e → (a ≡ b) × ((p ≡ q) × (c ≡ e))
-same_number a b p q c e h = (cc, (cc, cc))
+same_number : (a b : ℕ) (p q : ℤ) (c e : Bool) → field_number a p c ≡ field_number b q e → (a ≡ b) × ((p ≡ q) × (c ≡ e))
+same_number a b p q c e h = (
+  ap (λ (n : FieldNumber). n.decimals) h,
+  (ap (λ (n : FieldNumber). n.places.0) h, ap (λ (n : FieldNumber). n.coarse) h),
+)
 
 -- a number that is read is written, and none of the coarse range
-written_number : (t : List ℕ) (d : ℕ) (n : ℤ) (c : Bool) → read_number t ≡ Number d (record { 0 = n }) c → Written t d n × (c ≡ false)
+written_number : (t : List ℕ) (d : ℕ) (n : ℤ) (c : Bool) → read_number t ≡ Some (field_number d n c) → Written t d n × (c ≡ false)
 unfolding read_number
 written_number t d n c e =
     let a = after_minus t in
     let z = signed (has_minus t) (value_in a) in
-    let k = taken (is_written t) (Number (decimals_in a) (record { 0 = z }) false) d (record { 0 = n }) c e in
+    let k = some_of (is_written t) (field_number (decimals_in a) z false) e in
     let w = number_text_lem t k.0 in
-    let s = same_number (decimals_in a) d (record { 0 = z }) (record { 0 = n }) false c k.1 in
-    let sn : z ≡ n = ap (λ (p : LastPlaces). p.0) s.1.0 in
-    (record { few = rw s.0 at w.few; text = rw (s.0, sn) at w.text }, sym s.1.1)
+    let s = same_number (decimals_in a) d z n false c k.1 in
+    (record { few = rw s.0 at w.few; text = rw (s.0, s.1.0) at w.text }, sym s.1.1)
 
 -- what is right aligned in w characters
 record Aligned (l : List ℕ) (w d : ℕ) (n : ℤ) : Type 0 where
@@ -202,17 +199,17 @@ aligned l w d n long h =
     record { narrow = omega (arith, long, sum, pad, width); text = rw (rest, h.text) (sym s.1) }
 
 -- a number of the coarse range has its decimals, and was read as one of the fine range
-record Coarsened (x : FieldRead) (d : ℕ) (p : LastPlaces) (c : Bool) : Type 0 where
+record Coarsened (x : Option FieldNumber) (d : ℕ) (n : ℤ) (c : Bool) : Type 0 where
   range : c ≡ true
   decimals : leb 1 d && leb d 5 ≡ true
-  read : (b : Bool) × (x ≡ Number d p b)
+  read : (b : Bool) × (x ≡ Some (field_number d n b))
 
-coarsened : (x : FieldRead) (d : ℕ) (p : LastPlaces) (c : Bool) → coarsely x ≡ Number d p c → Coarsened x d p c
-coarsened (Number a q b) d p c e =
-    let k = taken (leb 1 a && leb a 5) (Number a q true) d p c e in
-    let s = same_number a d q p true c k.1 in
-    record { range = sym s.1.1; decimals = rw s.0 at k.0; read = (b, rw (s.0, s.1.0)) }
-coarsened NoNumber d p c e = let z : ◌≡◌ {A = ℕ} 0 1 = cc in absurd (omega arith)
+coarsened : (x : Option FieldNumber) (d : ℕ) (n : ℤ) (c : Bool) → coarsely x ≡ Some (field_number d n c) → Coarsened x d n c
+coarsened (Some x) d n c e =
+    let k = some_of (leb 1 x.decimals && leb x.decimals 5) (field_number x.decimals x.places.0 true) e in
+    let s = same_number x.decimals d x.places.0 n true c k.1 in
+    record { range = sym s.1.1; decimals = rw s.0 at k.0; read = (x.coarse, rw (← s.0, ← s.1.0)) }
+coarsened None d n c e = let z : ◌≡◌ {A = ℕ} 0 1 = cc in absurd (omega arith)
 
 written_fine : {l : List ℕ} {d : ℕ} {n : ℤ} → Aligned l 10 d n → d ≤ 6 → (fits_field false d n ≡ true) × (field_of false d n ≡ l)
 unfolding fits_field field_of
@@ -227,27 +224,27 @@ written_coarse {l} {d} {n} a decimals last ten = (
 )
 
 -- writing what was read gives the bytes back
-pub write_back : (l : List ℕ) (c : Bool) (d : ℕ) (n : ℤ) → read_field l ≡ Number d (record { 0 = n }) c → (fits_field c d n ≡ true) × (field_of c d n ≡ l)
+pub write_back : (l : List ℕ) (c : Bool) (d : ℕ) (n : ℤ) → read_field l ≡ Some (field_number d n c) → (fits_field c d n ≡ true) × (field_of c d n ≡ l)
 unfolding read_field
 write_back l c d n e =
-    let k = taken (eqb (length l) 10) _ d (record { 0 = n }) c e in
+    let k = taken (eqb (length l) 10) _ e in
     go (eqb (get_or l 9 0) space) refl (eqb-true (length l) 10 k.0) k.1
   where
-    fine : length l ≡ 10 → read_number (after_spaces l) ≡ Number d (record { 0 = n }) c → (fits_field c d n ≡ true) × (field_of c d n ≡ l)
+    fine : length l ≡ 10 → read_number (after_spaces l) ≡ Some (field_number d n c) → (fits_field c d n ≡ true) × (field_of c d n ≡ l)
     fine ten h =
         let w = written_number (after_spaces l) d n c h in
         let a = aligned l 10 d n ten w.0 in
         rw w.1 (written_fine a w.0.few)
 
-    coarse : get_or l 9 0 ≡ space → length l ≡ 10 → coarsely (read_number (after_spaces (take 9 l))) ≡ Number d (record { 0 = n }) c → (fits_field c d n ≡ true) × (field_of c d n ≡ l)
+    coarse : get_or l 9 0 ≡ space → length l ≡ 10 → coarsely (read_number (after_spaces (take 9 l))) ≡ Some (field_number d n c) → (fits_field c d n ≡ true) × (field_of c d n ≡ l)
     coarse last ten h =
-        let k = coarsened (read_number (after_spaces (take 9 l))) d (record { 0 = n }) c h in
+        let k = coarsened (read_number (after_spaces (take 9 l))) d n c h in
         let w = written_number (after_spaces (take 9 l)) d n k.read.0 k.read.1 in
         let a = aligned (take 9 l) 9 d n (length-take-le 9 l (omega (arith, ten))) w.0 in
         rw k.range (written_coarse a k.decimals last ten)
 
     go : (b : Bool) → eqb (get_or l 9 0) space ≡ b → length l ≡ 10
-        → cond b (coarsely (read_number (after_spaces (take 9 l)))) (read_number (after_spaces l)) ≡ Number d (record { 0 = n }) c
+        → cond b (coarsely (read_number (after_spaces (take 9 l)))) (read_number (after_spaces l)) ≡ Some (field_number d n c)
         → (fits_field c d n ≡ true) × (field_of c d n ≡ l)
     go true b ten h = coarse (eqb-true (get_or l 9 0) space b) ten h
     go false b ten h = fine ten h

@@ -1,10 +1,9 @@
 -- Document 01, "Weights", the field of a printed number: right aligned in ten characters; document 02, No. 7: in the coarse range in nine,
 -- and the last place is a space.
 -- Assumes nothing.
-use Rattle.std.specs.Prelude.{ℕ, ◌+◌, ◌-◌, ◌/◌, ◌^◌, Bool, true, false, cond, List, [], ◌∷◌, ◌++◌, ℤ, length, replicate}
+use Rattle.std.specs.Prelude.{ℕ, ◌+◌, ◌-◌, ◌/◌, ◌^◌, Bool, true, false, cond, Option, Some, None, List, [], ◌∷◌, ◌++◌, ℤ, length, replicate}
 use Rattle.weight.specs.Characters.{space}
 use Rattle.weight.specs.Places.{digits_of, number_text, width_of}
-use Rattle.text.specs.declared.field.Field.{Field}
 
 -- how many digits m last places with d decimals are written with
 unfoldable pub digit_count : ℕ → ℕ → ℕ
@@ -22,6 +21,6 @@ field_of false d n = aligned_in 10 d n
 abbrev pub blank : List ℕ
 blank = replicate 10 space
 
--- the field of a number if it fits, and else ten spaces
-abbrev pub field_if : Bool → Bool → ℕ → ℤ → Field
-field_if fits coarse d n = record { fits = fits; cells = cond fits (field_of coarse d n) blank }
+-- the field of a number if it fits
+abbrev pub field_if : Bool → Bool → ℕ → ℤ → Option (List ℕ)
+field_if fits coarse d n = cond fits (Some (field_of coarse d n)) None

@@ -5,6 +5,5 @@ pub mod Field
 pub mod Printable
 pub mod Reading
 pub mod Searching
-pub mod Short
 pub mod Typed
 pub mod UnitTexts

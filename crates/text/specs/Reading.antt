@@ -1,9 +1,8 @@
 -- Reading a number's text: what document 01 says of a typed number ("TA number unit") and of the weight that the host's
 -- reader takes ("Refusal numbers", a number written by the rule of "Weights" that fits the field).
 -- Assumes nothing.
-use Rattle.std.specs.Prelude.{ℕ, ◌+◌, ◌-◌, ◌*◌, Bool, true, false, cond, not, ◌&&◌, ◌||◌, List, [], ◌∷◌, leb, eqb, length, get_or, take, drop}
-use Rattle.text.specs.declared.reading.FieldRead.{FieldRead}
-use Rattle.text.specs.declared.reading.FieldRead.TheVariants.{Number, NoNumber}
+use Rattle.std.specs.Prelude.{ℕ, ◌+◌, ◌-◌, ◌*◌, Bool, true, false, cond, not, ◌&&◌, ◌||◌, Option, Some, None, List, [], ◌∷◌, ℤ, leb, eqb, length, get_or, take, drop}
+use Rattle.text.specs.declared.reading.FieldNumber.{FieldNumber}
 use Rattle.weight.specs.Characters.{space, minus, point, digit}
 use Rattle.weight.specs.Places.{signed}
 use Rattle.text.specs.Searching.{before_first, after_first, has_byte}
@@ -72,21 +71,25 @@ is_written t =
     && no_leading_zero (before_point (after_minus t))
     && not (has_minus t && eqb (value_in (after_minus t)) 0)
 
+-- a number by its decimals, its last places and whether it is one of the coarse range
+abbrev pub field_number : ℕ → ℤ → Bool → FieldNumber
+field_number d n coarse = record { decimals = d; places = record { 0 = n }; coarse = coarse }
+
 -- the decimals and the last places of a field
-unfoldable pub read_number : List ℕ → FieldRead
+unfoldable pub read_number : List ℕ → Option FieldNumber
 read_number t =
     cond (is_written t)
-    (Number (decimals_in (after_minus t)) (record { 0 = signed (has_minus t) (value_in (after_minus t)) }) false)
-    NoNumber
+    (Some (field_number (decimals_in (after_minus t)) (signed (has_minus t) (value_in (after_minus t))) false))
+    None
 
 -- the same of the coarse range (document 02, No. 7): 1 to 5 decimals
-abbrev pub coarsely : FieldRead → FieldRead
-coarsely (Number d n coarse) = cond (leb 1 d && leb d 5) (Number d n true) NoNumber
-coarsely NoNumber = NoNumber
+abbrev pub coarsely : Option FieldNumber → Option FieldNumber
+coarsely (Some n) = cond (leb 1 n.decimals && leb n.decimals 5) (Some (field_number n.decimals n.places.0 true)) None
+coarsely None = None
 
 -- ten characters; coarse exactly if the tenth is a space, and then the nine before it
-unfoldable pub read_field : List ℕ → FieldRead
+unfoldable pub read_field : List ℕ → Option FieldNumber
 read_field l =
     cond (eqb (length l) 10)
     (cond (eqb (get_or l 9 0) space) (coarsely (read_number (after_spaces (take 9 l)))) (read_number (after_spaces l)))
-    NoNumber
+    None

@@ -1,11 +1,9 @@
 -- Document 01, "The profile", the line on units, and document 02, No. 5: their texts and their codes, in the order of `all_units`.
 -- Assumes nothing.
-use Rattle.std.specs.Prelude.{ℕ, Bool, true, false, cond, List, [], ◌∷◌}
+use Rattle.std.specs.Prelude.{ℕ, Bool, true, false, cond, Option, Some, None, List, [], ◌∷◌}
 use Rattle.weight.specs.declared.units.WeightUnit.{WeightUnit}
 use Rattle.weight.specs.declared.units.WeightUnit.TheVariants.{G, Mg, Ct, Oz, Ozt, Gn, Dwt, Kg, Lb}
 use Rattle.weight.specs.Units.{all_units}
-use Rattle.text.specs.declared.unit_texts.UnitRead.{UnitRead}
-use Rattle.text.specs.declared.unit_texts.UnitRead.TheVariants.{Named, Unknown}
 use Rattle.text.specs.Ascii.{ascii, same_text}
 
 -- the text of a unit, as it ends a weight answer
@@ -38,12 +36,12 @@ unit_mark true u = unit_code u
 unit_mark false u = unit_text u
 
 -- reading it back: the first of these units whose code or text it is
-unfoldable pub first_marked : Bool → List ℕ → List WeightUnit → UnitRead
-first_marked coded t [] = Unknown
-first_marked coded t (u ∷ us) = cond (same_text t (unit_mark coded u)) (Named u) (first_marked coded t us)
+unfoldable pub first_marked : Bool → List ℕ → List WeightUnit → Option WeightUnit
+first_marked coded t [] = None
+first_marked coded t (u ∷ us) = cond (same_text t (unit_mark coded u)) (Some u) (first_marked coded t us)
 
-unfoldable pub unit_named : List ℕ → UnitRead
+unfoldable pub unit_named : List ℕ → Option WeightUnit
 unit_named t = first_marked false t all_units
 
-unfoldable pub unit_coded : List ℕ → UnitRead
+unfoldable pub unit_coded : List ℕ → Option WeightUnit
 unit_coded t = first_marked true t all_units

@@ -7,21 +7,8 @@ ghost use Rattle.text.specs.Field.{digit_count, field_if};
 
 use weight::{LastPlaces, fits, is_below_zero, size_of_number};
 
-const SPACE: u8 = 32;
-
-const MINUS: u8 = 45;
-
-const POINT: u8 = 46;
-
 // What nine digits stay below.
 const BILLION: u64 = 1_000_000_000;
-
-// The cells are spaces where the number does not fit.
-#[derive(Clone, Copy)]
-pub struct Field {
-    pub fits: bool,
-    pub cells: [u8; 10],
-}
 
 // Of a number that starts at `start`, the `high` digits from `at` on, which stand for `value`.
 #[derive(Clone, Copy)]
@@ -32,23 +19,24 @@ struct Nine {
     value: u32,
 }
 
-// 10^place. A match: a constant array is built anew at every use.
+static POWERS: [u32; 10] = [
+    1,
+    10,
+    100,
+    1_000,
+    10_000,
+    100_000,
+    1_000_000,
+    10_000_000,
+    100_000_000,
+    1_000_000_000,
+];
+
 fn power_of_ten(place: u32) -> u32
     requires { place ≤ 9 }
     ensures { result ≡ 10 ^ place }
 {
-    match place {
-        0 => 1,
-        1 => 10,
-        2 => 100,
-        3 => 1_000,
-        4 => 10_000,
-        5 => 100_000,
-        6 => 1_000_000,
-        7 => 10_000_000,
-        8 => 100_000_000,
-        _ => 1_000_000_000,
-    }
+    POWERS[place as usize]
 }
 
 // How many digits a number is written with.
@@ -56,6 +44,7 @@ fn digit_count(decimals: u32, value: u32) -> u32
     requires { digit_count decimals value ≤ 9 }
     ensures { result ≡ digit_count decimals value }
 {
+    // Stays a while: what is counted is the answer, and a search through a range would have to say again where it ends.
     let mut count = decimals + 1;
     while power_of_ten(count) <= value {
         count += 1;
@@ -73,6 +62,7 @@ fn put_digit(out: &mut [u8], at: usize, power: u32, value: u32) -> u32
 {
     let mut rest = value;
     let mut byte = b'0';
+    // Stays a while: it ends by what is left, and no division may say after how many turns.
     while power <= rest {
         rest -= power;
         byte += 1;
@@ -91,10 +81,9 @@ fn put_digits(out: &mut [u8], at: usize, high: u32, low: u32, value: u32) -> u32
     ensures out_after { out.new ≡ take at out.old ++ last_digits (high - low) (value / 10 ^ low) ++ drop (at + (high - low)) out.old }
 {
     let mut rest = value;
-    let mut place = high;
+    // Stays a counter: the cells go up as the places go down.
     let mut cell = at;
-    while low < place {
-        place -= 1;
+    for place in (low..high).rev() {
         rest = put_digit(out, cell, power_of_ten(place), rest);
         cell += 1;
     }
@@ -111,9 +100,7 @@ fn put_billions(out: &mut [u8], value: u64) -> u32
 {
     let mut rest = value;
     let mut byte = b'0';
-    let mut left = 9u32;
-    while 0 < left {
-        left -= 1;
+    for _ in 0..9u32 {
         if BILLION <= rest {
             rest -= BILLION;
             byte += 1;
@@ -130,12 +117,11 @@ fn nine_digits(out: &mut [u8], decimals: u32, size: u64) -> Nine
     ensures { Begun out.old decimals size out.new result }
 {
     if BILLION <= size {
-        let value = put_billions(out, size);
         return Nine {
             start: 0,
             at: 1,
             high: 9,
-            value,
+            value: put_billions(out, size),
         };
     }
     let value = size as u32;
@@ -160,7 +146,7 @@ fn put_decimals(out: &mut [u8], decimals: u32, value: u32)
     ensures { out.new ≡ take (length out.old - decimals - 1) out.old ++ point ∷ last_digits decimals value }
 {
     let at = out.len() - decimals as usize - 1;
-    out[at] = POINT;
+    out[at] = b'.';
     put_digits(out, at + 1, decimals, 0, value);
 }
 
@@ -180,6 +166,7 @@ fn decimal(out: &mut [u8], decimals: u32, size: u64) -> usize
     nine.start
 }
 
+// Here and above `out` stays a slice of at most ten: an array would be ten, and nine are lent in the coarse range.
 // Writes a number up to the end of `out`, a minus before it if it is below zero.
 fn number(out: &mut [u8], decimals: u8, places: LastPlaces)
     requires out_len_bound { length out.old ≤ 10 }
@@ -189,7 +176,7 @@ fn number(out: &mut [u8], decimals: u8, places: LastPlaces)
     let size = size_of_number(places);
     let start = decimal(out, decimals as u32, size);
     if is_below_zero(places) {
-        out[start - 1] = MINUS;
+        out[start - 1] = b'-';
     }
 }
 
@@ -198,21 +185,17 @@ pub fn width_in(coarse: bool) -> usize
     ensures value { result ≡ characters_in coarse }
     ensures upper_bound { result ≤ 10 }
 {
-    if coarse {
-        return 9;
-    }
-    10
+    if coarse { 9 } else { 10 }
 }
 
-// The ten characters of a number, or ten spaces where it does not fit.
-pub fn field_of(decimals: u8, places: LastPlaces, coarse: bool) -> Field
+// The ten characters of a number; none where it does not fit.
+pub fn field_of(decimals: u8, places: LastPlaces, coarse: bool) -> Option<[u8; 10]>
     ensures { result ≡ field_if (fits_field coarse decimals places.0) coarse decimals places.0 }
 {
-    let mut cells = [SPACE; 10];
-    if fits(decimals, places, coarse) {
-        let width = width_in(coarse);
-        number(&mut cells[..width], decimals, places);
-        return Field { fits: true, cells };
+    if !fits(decimals, places, coarse) {
+        return None;
     }
-    Field { fits: false, cells }
+    let mut cells = [b' '; 10];
+    number(&mut cells[..width_in(coarse)], decimals, places);
+    Some(cells)
 }

@@ -5,13 +5,11 @@
 mod field;
 mod reading;
 mod scanning;
-mod short;
 mod typed;
 mod unit_texts;
 
-pub use field::{Field, field_of};
-pub use reading::{FieldRead, read_field};
+pub use field::field_of;
+pub use reading::{FieldNumber, read_field};
 pub use scanning::{byte_at, first_at, first_space, is_printable, part, same_text};
-pub use short::ShortText;
 pub use typed::{read_preset, read_typed};
-pub use unit_texts::{UnitRead, is_unit, read_code, read_unit, unit_code, unit_text};
+pub use unit_texts::{is_unit, read_code, read_unit, unit_code, unit_text};

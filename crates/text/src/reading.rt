@@ -1,33 +1,26 @@
 // Reading the text of a number back.
 ghost use Rattle.std.specs.Prelude.{◌≡◌, ◌<◌, ◌≤◌, length, drop};
 ghost use Rattle.weight.specs.Characters.{point};
-ghost use Rattle.text.specs.Decimals.{TenDigits, ReadsWhole, ReadsDecimal, MinusAt};
+ghost use Rattle.text.specs.Decimals.{TenDigits, read_whole, read_decimal};
 ghost use Rattle.text.specs.Searching.{FirstAt};
-ghost use Rattle.text.specs.Reading as meaning;
-ghost use Rattle.text.specs.Reading.{after_spaces, before_point, no_leading_zero, read_number, read_field};
+ghost use Rattle.text.specs.Reading.{after_spaces, has_minus, after_minus, before_point, no_leading_zero, coarsely, read_number, read_field};
 
 use crate::field::width_in;
+use crate::scanning::byte_at;
 use classes::{ALL, DIGITS, POINTS, SPACES, first_in};
 use weight::{LastPlaces, signed_places};
 
 // What ten characters are read as: the decimals and the number, and whether it is one of the coarse range.
 #[derive(Clone, Copy)]
-pub enum FieldRead {
-    Number(u8, LastPlaces, bool),
-    NoNumber,
+pub struct FieldNumber {
+    pub decimals: u8,
+    pub places: LastPlaces,
+    pub coarse: bool,
 }
 
-// A text of digits, and the number that it stands for; 0 where it is none.
-#[derive(Clone, Copy)]
-struct Whole {
-    good: bool,
-    value: u64,
-}
-
-// A text of digits with or without a point: its decimals and its number without the point; 0 and 0 where it is none.
+// The decimals of a number without a sign, and the number without the point.
 #[derive(Clone, Copy)]
 pub struct Decimal {
-    pub good: bool,
     pub decimals: u8,
     pub value: u64,
 }
@@ -58,149 +51,111 @@ fn first_point(text: &[u8]) -> usize
 }
 
 // A text of digits after digits that stand for `start`, ten in all at most, so that no sum wraps.
-fn read_whole(text: &[u8], start: u64) -> Whole
+fn read_whole(text: &[u8], start: u64) -> Option<u64>
     requires { TenDigits text.now start }
-    ensures { ReadsWhole text.now start result.good result.value }
+    ensures { result ≡ read_whole start text.now }
 {
-    if text.len() < 1 {
-        return Whole {
-            good: false,
-            value: 0,
-        };
-    }
-    if first_in(text, NO_DIGITS) < text.len() {
-        return Whole {
-            good: false,
-            value: 0,
-        };
+    if (text.len() < 1) | (first_in(text, NO_DIGITS) < text.len()) {
+        return None;
     }
     let mut value = start;
-    let mut i = 0;
-    while i < text.len() {
-        let c = text[i];
-        value = value * 10 + (c - b'0') as u64;
-        i += 1;
+    for c in text {
+        value = value * 10 + (*c - b'0') as u64;
     }
-    Whole { good: true, value }
+    Some(value)
 }
 
-// A decimal of at most ten characters.
-pub fn read_decimal(text: &[u8]) -> Decimal
+// A decimal of at most ten characters. Here and below a clause says so: a type for the text would be made anew for each part of it.
+pub fn read_decimal(text: &[u8]) -> Option<Decimal>
     requires { length text.now ≤ 10 }
-    ensures { ReadsDecimal text.now result.good result.decimals result.value }
+    ensures { result ≡ read_decimal text.now }
 {
     let point = first_point(text);
-    let whole = read_whole(&text[..point], 0);
-    if point < text.len() {
-        let start = point + 1;
-        let count = text.len() - start;
-        let all = read_whole(&text[start..], whole.value);
-        if whole.good & all.good {
-            if count <= MOST_DECIMALS {
-                return Decimal {
-                    good: true,
-                    decimals: count as u8,
-                    value: all.value,
-                };
-            }
-        }
-        return Decimal {
-            good: false,
+    let whole = read_whole(&text[..point], 0)?;
+    if text.len() <= point {
+        return Some(Decimal {
             decimals: 0,
-            value: 0,
-        };
+            value: whole,
+        });
     }
-    Decimal {
-        good: whole.good,
-        decimals: 0,
-        value: whole.value,
+    let fraction = &text[point + 1..];
+    let value = read_whole(fraction, whole)?;
+    if MOST_DECIMALS < fraction.len() {
+        return None;
     }
+    Some(Decimal {
+        decimals: fraction.len() as u8,
+        value,
+    })
 }
 
-// How many minus signs the text begins with: one or none.
-fn minus_count(text: &[u8]) -> usize
-    ensures { MinusAt text.now result }
+// Whether the text begins with a minus, and what follows it.
+fn split_minus(text: &[u8]) -> (bool, &[u8])
+    ensures has { result.0 ≡ has_minus text.now }
+    ensures after { result.1.now ≡ after_minus text.now }
 {
-    if text.len() < 1 {
-        return 0;
+    match text {
+        [b'-', rest @ ..] => (true, rest),
+        _ => (false, text),
     }
-    if text[0] == b'-' {
-        return 1;
-    }
-    0
 }
 
 // Whether no zero leads the digits before the point, save one that stands alone.
 fn no_leading_zero(text: &[u8]) -> bool
     ensures { result ≡ no_leading_zero (before_point text.now) }
 {
-    if text.len() < 1 {
-        return true;
-    }
-    if text[0] != b'0' {
-        return true;
-    }
-    first_point(text) < 2
+    byte_at(text, 0) != b'0' || first_point(text) < 2
 }
 
 // A number written as a weight is: `text` is what follows the spaces.
-fn read_number(text: &[u8]) -> FieldRead
+fn read_number(text: &[u8]) -> Option<FieldNumber>
     requires { length text.now ≤ 10 }
     ensures { result ≡ read_number text.now }
 {
-    let start = minus_count(text);
-    let negative = 0 < start;
-    let digits = &text[start..];
-    let number = read_decimal(digits);
-    let shortest = no_leading_zero(digits);
+    let (negative, digits) = split_minus(text);
+    let number = read_decimal(digits)?;
     let minus_zero = negative & (number.value == 0);
-    if number.good & shortest & !minus_zero {
-        return FieldRead::Number(
-            number.decimals,
-            signed_places(negative, number.value),
-            false,
-        );
+    if minus_zero | !no_leading_zero(digits) {
+        return None;
     }
-    FieldRead::NoNumber
+    Some(FieldNumber {
+        decimals: number.decimals,
+        places: signed_places(negative, number.value),
+        coarse: false,
+    })
 }
 
 // A number right aligned in the text.
-fn read_aligned(text: &[u8]) -> FieldRead
+fn read_aligned(text: &[u8]) -> Option<FieldNumber>
     requires { length text.now ≤ 10 }
     ensures { result ≡ read_number (after_spaces text.now) }
 {
-    let start = space_count(text);
-    read_number(&text[start..])
+    read_number(&text[space_count(text)..])
 }
 
 // The same number as one of the coarse range, if it has 1 to 5 decimals.
-fn coarsely(read: FieldRead) -> FieldRead
-    ensures { result ≡ meaning.coarsely read }
+fn coarsely(read: Option<FieldNumber>) -> Option<FieldNumber>
+    ensures { result ≡ coarsely read }
 {
-    match read {
-        FieldRead::Number(decimals, places, coarse) => {
-            if (1 <= decimals) & (decimals <= 5) {
-                FieldRead::Number(decimals, places, true)
-            } else {
-                FieldRead::NoNumber
-            }
-        }
-        FieldRead::NoNumber => FieldRead::NoNumber,
+    let number = read?;
+    if 1 <= number.decimals && number.decimals <= 5 {
+        Some(FieldNumber {
+            coarse: true,
+            ..number
+        })
+    } else {
+        None
     }
 }
 
 // A field of ten characters: coarse, the last of them is a space.
-pub fn read_field(text: &[u8]) -> FieldRead
+pub fn read_field(text: &[u8]) -> Option<FieldNumber>
     ensures { result ≡ read_field text.now }
 {
     if text.len() != FIELD_WIDTH {
-        return FieldRead::NoNumber;
+        return None;
     }
     let coarse = text[LAST_PLACE] == b' ';
-    let width = width_in(coarse);
-    let read = read_aligned(&text[..width]);
-    if coarse {
-        return coarsely(read);
-    }
-    read
+    let read = read_aligned(&text[..width_in(coarse)]);
+    if coarse { coarsely(read) } else { read }
 }

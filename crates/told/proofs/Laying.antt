@@ -11,8 +11,8 @@ use borrow.Author.Tests.{leb-true, leb-false}
 use lib.Dec.{leb}
 use lib.ListN.{length, take, drop, get_or, set, length-append, length-drop, take-append-drop}
 use lib.Seq.{sets, length-sets, sets-eq, take-suc, take_all, take-append-le, length-take-le, drop-length}
-use Rattle.told.specs.Laying.{Laid, laid_over, laid_count}
-use Rattle.told.specs.StateLines.{only_if}
+use Rattle.told.specs.declared.words.Sheet.{Sheet}
+use Rattle.told.specs.Laying.{Laid, LaidOn, laid_over, laid_count}
 
 -- ---- stores
 
@@ -32,22 +32,12 @@ sets_append d a (x ∷ p) q = sets_append (set d a x) (suc a) p q ∙ rw (suc-ad
 
 -- ---- texts
 
-pub laid_nothing : (d : List ℕ) (a : ℕ) → Laid d a [] d a
-laid_nothing d a = record { written = refl; reached = omega arith }
-
-pub laid_byte : (d : List ℕ) (a b : ℕ) → a < length d → Laid d a (b ∷ []) (set d a b) (a + 1)
-laid_byte d a b h = record { written = refl; reached = omega (arith, h) }
-
-pub laid_past : (d : List ℕ) (a b : ℕ) → length d ≤ a → Laid d a (b ∷ []) d a
-laid_past d a b h = record { written = sym (set_past d a b h); reached = omega (arith, h) }
-
-pub laid_length : {d e s : List ℕ} {a b : ℕ} → Laid d a s e b → length e ≡ length d
+laid_length : {d e s : List ℕ} {a b : ℕ} → Laid d a s e b → length e ≡ length d
 laid_length {d} {e} {s} {a} l = ap length l.written ∙ length-sets d a s
 
 -- a text and then another are the two together
-infixl 5 ◌then◌
-pub ◌then◌ : {d e f p q : List ℕ} {a b c : ℕ} → Laid d a p e b → Laid e b q f c → Laid d a (p ++ q) f c
-◌then◌ {d} {e} {f} {p} {q} {a} {b} {c} h k =
+laid_both : {d e f p q : List ℕ} {a b c : ℕ} → Laid d a p e b → Laid e b q f c → Laid d a (p ++ q) f c
+laid_both {d} {e} {f} {p} {q} {a} {b} {c} h k =
     record {
       written = k.written ∙ go (leb (a + length p) (length d)) refl;
       reached = omega (arith, h.reached, k.reached, long, length-append p q);
@@ -67,22 +57,18 @@ pub ◌then◌ : {d e f p q : List ℕ} {a b c : ℕ} → Laid d a p e b → Lai
         let past : length (sets d a p) ≤ a + length p = omega (arith, room, length-sets d a p) in
         sets_past e b q next ∙ h.written ∙ sym (sets_past (sets d a p) (a + length p) q past) ∙ sym (sets_append d a p q)
 
-pub laid_as : {d e p q : List ℕ} {a b : ℕ} → p ≡ q → Laid d a p e b → Laid d a q e b
-laid_as same l = rw same at l
+-- ---- on a sheet
 
--- a word that is there only if something holds
-pub if_holds : {d e w : List ℕ} {a b : ℕ} (holds : Bool) → holds ≡ true → Laid d a w e b → Laid d a (only_if holds w) e b
-if_holds holds t l = laid_as (sym (rw t)) l
+infixl 5 ◌then◌
+pub ◌then◌ : {s t u : Sheet} {p q : List ℕ} → LaidOn s p t → LaidOn t q u → LaidOn s (p ++ q) u
+h then k = record { laid = laid_both h.laid k.laid; same = k.same ∙ h.same }
 
-pub if_not : (d w : List ℕ) (a : ℕ) (holds : Bool) → holds ≡ false → Laid d a (only_if holds w) d a
-if_not d w a holds f = laid_as (sym (rw f)) (laid_nothing d a)
+pub laid_as : {s t : Sheet} {p q : List ℕ} → p ≡ q → LaidOn s p t → LaidOn s q t
+laid_as e l = rw e at l
 
 -- one byte more of a text
-pub laid_more : {d e f : List ℕ} {a b c : ℕ} (s : List ℕ) (i : ℕ) → i < length s → Laid d a (take i s) e b → Laid e b (get_or s i 0 ∷ []) f c → Laid d a (take (i + 1) s) f c
-laid_more s i h l k = laid_as (sym (rw (add-one i, take-suc s i 0 h))) (l then k)
-
-pub laid_all : {d e : List ℕ} {a b : ℕ} (s : List ℕ) (i : ℕ) → length s ≤ i → Laid d a (take i s) e b → Laid d a s e b
-laid_all s i h l = laid_as (take_all i s h) l
+pub laid_more : {s t u : Sheet} (p : List ℕ) (i : ℕ) → i < length p → LaidOn s (take i p) t → LaidOn t (get_or p i 0 ∷ []) u → LaidOn s (take (i + 1) p) u
+laid_more p i h l k = laid_as (sym (rw (add-one i, take-suc p i 0 h))) (l then k)
 
 -- ---- a whole line, from its first place on
 
@@ -118,11 +104,7 @@ line_laid {d} {e} {s} l = l.written ∙ go (leb (length s) (length d)) refl
         ∙ append-nil (take n s)
         ∙ sym (take-append-le n s (drop (length s) d) (omega (arith, room)))
 
-pub whole_laid : {d e s : List ℕ} {c : ℕ} → Laid d 0 s e c → (c ≡ laid_count s d) × (e ≡ laid_over s d)
-whole_laid l = (count_laid l, line_laid l)
-
-pub over_length : (d s : List ℕ) {e : List ℕ} → e ≡ laid_over s d → length e ≡ length d
-unfolding laid_over
-over_length d s same =
-    let whole : length d ≤ length (s ++ drop (length s) d) = rw (length-append, length-drop) (omega arith) in
-    ap length same ∙ length-take-le (length d) (s ++ drop (length s) d) whole
+pub whole_laid : {s t : Sheet} {p : List ℕ} → s.at ≡ 0 → LaidOn s p t → (t.at ≡ laid_count p s.line.now) × (t.line.now ≡ laid_over p s.line.now)
+whole_laid {s} {t} {p} e h =
+    let l : Laid s.line.now 0 p t.line.now t.at = rw e at h.laid in
+    (count_laid l, line_laid l)

@@ -2,6 +2,7 @@
 -- Assumes nothing.
 use Rattle.std.specs.Prelude.{ℕ, ◌+◌, ◌-◌, min, ◌≡◌, List, ◌++◌, length, take, drop}
 use Rattle.std.proofs.lemmas.List.Edits.{sets}
+use Rattle.told.specs.declared.words.Sheet.{Sheet}
 
 -- the text as far as there are places, then the rest as before
 unfoldable pub laid_over : List ℕ → List ℕ → List ℕ
@@ -15,3 +16,8 @@ laid_count text line = min (length text) (length line)
 pub record Laid (before : List ℕ) (at : ℕ) (text : List ℕ) (after : List ℕ) (next : ℕ) : Type 0 where
   pub written : after ≡ sets before at text
   pub reached : next ≡ at + min (length text) (length before - at)
+
+-- the same of what is written to, which stays the same line
+pub record LaidOn (before : Sheet) (text : List ℕ) (after : Sheet) : Type 0 where
+  pub laid : Laid before.line.now before.at text after.line.now after.at
+  pub same : after.line.ghost_name ≡ before.line.ghost_name

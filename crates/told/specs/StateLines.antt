@@ -1,13 +1,13 @@
 -- The line that `state` prints: what the module holds and no answer shows, in the line's order.
 -- Assumes nothing.
-use Rattle.std.specs.Prelude.{ℕ, Bool, cond, List, [], ◌++◌, ltb, take}
+use Rattle.std.specs.Prelude.{ℕ, Bool, cond, Option, Some, None, List, [], ◌++◌, ltb, take}
 use Rattle.line.specs.declared.receive.Line.{Line}
 use Rattle.model.specs.declared.sending.Mode.{Mode}
 use Rattle.model.specs.declared.sending.Mode.TheVariants.{Off, EachSample, OnChange}
 use Rattle.model.specs.declared.sending.Sending.{Sending}
 use Rattle.model.specs.declared.state.Display.{Display}
 use Rattle.model.specs.declared.state.Pending.{Pending}
-use Rattle.model.specs.declared.state.Pending.TheVariants.{Nothing, Weigh, Zero, Tare, Change}
+use Rattle.model.specs.declared.state.Pending.TheVariants.{Weigh, Zero, Tare, Change}
 use Rattle.model.specs.declared.state.State.{State}
 use Rattle.model.specs.declared.state.Waiting.{Waiting}
 use Rattle.model.specs.declared.weighing.Weighing.{Weighing}
@@ -47,12 +47,12 @@ sample_word w =
     cond w.sampled (cond w.stable (ascii " sample s ") (ascii " sample u ") ++ load_text w.load) (ascii " sample none")
 
 -- the command that waits and the unstable samples that have come; SR's threshold after them
-abbrev pub waits_for : Pending → ℕ → Threshold → List ℕ
-waits_for Nothing unstable threshold = ascii "none"
-waits_for Weigh unstable threshold = ascii "S " ++ digits_of unstable
-waits_for Zero unstable threshold = ascii "Z " ++ digits_of unstable
-waits_for Tare unstable threshold = ascii "T " ++ digits_of unstable
-waits_for Change unstable threshold = ascii "SR " ++ digits_of unstable ++ ascii " " ++ threshold_text threshold
+abbrev pub waits_for : Option Pending → ℕ → Threshold → List ℕ
+waits_for None unstable threshold = ascii "none"
+waits_for (Some Weigh) unstable threshold = ascii "S " ++ digits_of unstable
+waits_for (Some Zero) unstable threshold = ascii "Z " ++ digits_of unstable
+waits_for (Some Tare) unstable threshold = ascii "T " ++ digits_of unstable
+waits_for (Some Change) unstable threshold = ascii "SR " ++ digits_of unstable ++ ascii " " ++ threshold_text threshold
 
 unfoldable pub waits_word : Waiting → Threshold → List ℕ
 waits_word w threshold = ascii " waits " ++ waits_for w.pending w.unstable threshold

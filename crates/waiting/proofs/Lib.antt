@@ -1,4 +1,2 @@
-mod Changes
 pub mod InForce
 pub mod Samples
-mod Waits

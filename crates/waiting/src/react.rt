@@ -8,7 +8,5 @@ use weighing::Measured;
 pub fn measured_reaction(state: State, measured: Measured) -> Reaction
     ensures { result ≡ meaning.measured_reaction state measured }
 {
-    let weighing = measured.weighing;
-    let answer = measured.answer;
-    answered(with_weighing(state, weighing), answer)
+    answered(with_weighing(state, measured.weighing), measured.answer)
 }

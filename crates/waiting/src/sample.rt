@@ -1,16 +1,14 @@
 // What a sample makes of the state.
 ghost use Rattle.std.specs.Prelude.{◌≡◌};
-ghost use Rattle.model.specs.Groups as groups;
 ghost use Rattle.waiting.specs.Parts as parts;
 ghost use Rattle.waiting.specs.Waits as meaning;
 
 use crate::change::changed;
-use crate::react::measured_reaction;
-use crate::wait::{not_waiting, sending_of, settled, waited};
+use crate::wait::{not_waiting, settled_reaction, waited};
 use answer::Answer;
 use model::{
-    Mode, Profile, Reaction, State, answered, is_off, is_pending, scale_of, with_sending,
-    with_waiting, with_weighing,
+    Mode, Pending, Profile, Reaction, State, answered, is_off, is_pending, scale_of, with_waiting,
+    with_weighing,
 };
 use weighing::{weighed_by, with_sample};
 use weight::Load;
@@ -19,10 +17,8 @@ use weight::Load;
 fn unasked(profile: Profile, state: State) -> Reaction
     ensures { result ≡ meaning.unasked_as state.sending.mode profile state }
 {
-    let sending = state.sending;
-    let mode = sending.mode;
     let weighing = state.weighing;
-    match mode {
+    match state.sending.mode {
         Mode::Off => answered(state, Answer::Nothing),
         Mode::EachSample => answered(state, weighed_by(scale_of(profile, weighing), weighing)),
         Mode::OnChange => changed(scale_of(profile, weighing), state),
@@ -30,70 +26,49 @@ fn unasked(profile: Profile, state: State) -> Reaction
 }
 
 // A sample that finds a command waiting; it is the state's latest.
-fn attended(profile: Profile, state: State) -> Reaction
-    ensures { result ≡ groups.chosen_reaction state.weighing.stable
-        (meaning.settled_reaction profile (groups.with_waiting state groups.not_waiting) state.waiting.pending)
-        (meaning.waited profile state) }
+fn attended(profile: Profile, state: State, pending: Pending) -> Reaction
+    ensures { result ≡ parts.attended_reaction profile state pending }
 {
-    let weighing = state.weighing;
-    if weighing.stable {
-        let waiting = state.waiting;
-        let pending = waiting.pending;
-        let sending = state.sending;
-        let scale = scale_of(profile, weighing);
+    if state.weighing.stable {
         let free = with_waiting(state, not_waiting());
-        let next = with_sending(free, sending_of(scale, pending, weighing, sending));
-        return measured_reaction(next, settled(scale, pending, weighing));
+        settled_reaction(scale_of(profile, state.weighing), free, pending)
+    } else {
+        waited(profile, state, pending)
     }
-    waited(profile, state)
 }
 
 // Whether a sample may be answered: a command waits, or SIR or SR runs.
 pub fn is_awaited(state: State) -> bool
     ensures { result ≡ meaning.is_awaited state }
 {
-    let waiting = state.waiting;
-    let pending = waiting.pending;
-    let sending = state.sending;
-    let mode = sending.mode;
-    is_pending(pending) | !is_off(mode)
+    is_pending(state.waiting.pending) | !is_off(state.sending.mode)
 }
 
 // The sample is the latest.
 pub fn sampled(state: State, load: Load, stable: bool) -> State
     ensures { result ≡ meaning.sampled_state state load stable }
 {
-    let weighing = state.weighing;
-    with_weighing(state, with_sample(weighing, load, stable))
+    with_weighing(state, with_sample(state.weighing, load, stable))
 }
 
 // What the latest sample of a state gives.
 fn latest_reaction(profile: Profile, state: State) -> Reaction
     ensures { result ≡ parts.latest_reaction profile state }
 {
-    let waiting = state.waiting;
-    let pending = waiting.pending;
-    if is_pending(pending) {
-        return attended(profile, state);
+    match state.waiting.pending {
+        Some(pending) => attended(profile, state, pending),
+        None => unasked(profile, state),
     }
-    unasked(profile, state)
 }
 
 // The groups that a sample can change, of another state. Line and display stay, so no way of a sample has to copy them.
 fn with_groups_of(state: State, other: State) -> State
     ensures { result ≡ parts.with_groups_of state other }
 {
-    let line = state.line;
-    let weighing = other.weighing;
-    let waiting = other.waiting;
-    let sending = other.sending;
-    let display = state.display;
     State {
-        line,
-        weighing,
-        waiting,
-        sending,
-        display,
+        line: state.line,
+        display: state.display,
+        ..other
     }
 }
 
@@ -101,7 +76,5 @@ pub fn sample_reaction(profile: Profile, state: State, load: Load, stable: bool)
     ensures { result ≡ meaning.sample_reaction profile state load stable }
 {
     let reaction = latest_reaction(profile, sampled(state, load, stable));
-    let next = reaction.state;
-    let answer = reaction.answer;
-    answered(with_groups_of(state, next), answer)
+    answered(with_groups_of(state, reaction.state), reaction.answer)
 }

@@ -12,91 +12,93 @@ use model::{
 };
 use weighing::{Measured, tared_by, unchanged, weighed_by, zeroed_by};
 
-// The identification of what waits.
+// The identification of what waits. Stays a function: as a number of `From` it would not say which number.
 fn place_of(pending: Pending) -> u8
     ensures { result ≡ meaning.place_of_pending pending }
 {
     match pending {
-        Pending::Nothing => 0,
-        Pending::Weigh => S,
+        Pending::Weigh | Pending::Change => S,
         Pending::Zero => Z,
         Pending::Tare => T,
-        Pending::Change => S,
     }
-}
-
-fn waiting_for(pending: Pending, unstable: u32) -> Waiting
-    ensures { result ≡ record { pending = pending; unstable = unstable } }
-{
-    Waiting { pending, unstable }
 }
 
 pub fn not_waiting() -> Waiting
     ensures { result ≡ groups.not_waiting }
 {
     Waiting {
-        pending: Pending::Nothing,
+        pending: None,
         unstable: 0,
     }
 }
 
 // What a waiting command makes of a stable sample.
-pub fn settled(scale: Scale, pending: Pending, weighing: Weighing) -> Measured
+fn settled(scale: Scale, pending: Pending, weighing: Weighing) -> Measured
     ensures { result ≡ meaning.settled_by scale pending weighing }
 {
     match pending {
-        Pending::Nothing => unchanged(weighing, Answer::Nothing),
-        Pending::Weigh => unchanged(weighing, weighed_by(scale, weighing)),
+        Pending::Weigh | Pending::Change => unchanged(weighing, weighed_by(scale, weighing)),
         Pending::Zero => zeroed_by(scale, weighing, Z, Status::A),
         Pending::Tare => tared_by(scale, weighing, T),
-        Pending::Change => unchanged(weighing, weighed_by(scale, weighing)),
     }
 }
 
 // SR runs from then on.
-pub fn sending_of(scale: Scale, pending: Pending, weighing: Weighing, sending: Sending) -> Sending
+fn sending_of(scale: Scale, pending: Pending, weighing: Weighing, sending: Sending) -> Sending
     ensures { result ≡ meaning.sending_by scale pending weighing sending }
 {
     match pending {
-        Pending::Nothing => sending,
-        Pending::Weigh => sending,
-        Pending::Zero => sending,
-        Pending::Tare => sending,
         Pending::Change => started(scale, weighing, sending),
+        Pending::Weigh | Pending::Zero | Pending::Tare => sending,
     }
 }
 
-// The latest sample is judged if it is stable; otherwise the command waits.
-pub fn begun(scale: Scale, state: State, pending: Pending) -> Reaction
-    ensures { result ≡ meaning.begun_by scale state pending }
+// The command is answered by the latest sample of the state.
+#[tactic(auto, unfolding(crate::specs::Waits::settled_reaction_by))]
+pub fn settled_reaction(scale: Scale, state: State, pending: Pending) -> Reaction
+    ensures { result ≡ meaning.settled_reaction_by scale state pending }
 {
     let weighing = state.weighing;
-    if weighing.sampled & weighing.stable {
-        let sending = state.sending;
-        let next = with_sending(state, sending_of(scale, pending, weighing, sending));
-        return measured_reaction(next, settled(scale, pending, weighing));
-    }
-    answered(
-        with_waiting(state, waiting_for(pending, 0)),
-        Answer::Nothing,
+    measured_reaction(
+        with_sending(state, sending_of(scale, pending, weighing, state.sending)),
+        settled(scale, pending, weighing),
     )
 }
 
-// One more unstable sample while a command waits.
-pub fn waited(profile: Profile, state: State) -> Reaction
-    ensures { result ≡ meaning.waited profile state }
+// The latest sample is judged if it is stable; otherwise the command waits. No command has no answer.
+#[tactic(auto, unfolding(crate::specs::Waits::begun_by))]
+pub fn begun(scale: Scale, state: State, pending: Option<Pending>) -> Reaction
+    ensures { result ≡ meaning.begun_of scale state pending }
 {
-    let waiting = state.waiting;
-    let pending = waiting.pending;
-    let unstable = waiting.unstable as u64 + 1;
-    if profile.timeout as u64 <= unstable {
+    let judged = state.weighing.sampled & state.weighing.stable;
+    match pending {
+        Some(command) if judged => settled_reaction(scale, state, command),
+        None if judged => answered(state, Answer::Nothing),
+        _ => {
+            let waiting = Waiting {
+                pending,
+                unstable: 0,
+            };
+            answered(with_waiting(state, waiting), Answer::Nothing)
+        }
+    }
+}
+
+// One more unstable sample while a command waits.
+#[tactic(auto, unfolding(crate::specs::Waits::waited))]
+pub fn waited(profile: Profile, state: State, pending: Pending) -> Reaction
+    ensures { result ≡ meaning.waited profile state pending }
+{
+    let unstable = state.waiting.unstable.saturating_add(1);
+    if profile.timeout <= unstable {
         return answered(
             with_waiting(state, not_waiting()),
             plain(place_of(pending), Status::I),
         );
     }
-    answered(
-        with_waiting(state, waiting_for(pending, unstable as u32)),
-        Answer::Nothing,
-    )
+    let waiting = Waiting {
+        pending: Some(pending),
+        unstable,
+    };
+    answered(with_waiting(state, waiting), Answer::Nothing)
 }

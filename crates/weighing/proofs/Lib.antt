@@ -1,3 +1,2 @@
 pub mod InForce
-mod Limits
 pub mod Reach

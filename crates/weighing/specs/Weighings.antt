@@ -1,6 +1,6 @@
 -- Document 01, "Weights" and "What each command does", and document 02, No. 7: gross and net, and what S, Z, T and their kin make of them.
 -- Assumes nothing.
-use Rattle.std.specs.Prelude.{ℕ, Bool, true, false, cond, ◌||◌, ℤ, pos, neg_ℤ, nat_abs, ◌-ℤ◌}
+use Rattle.std.specs.Prelude.{ℕ, Bool, true, false, cond, ◌||◌, ℤ, pos, neg_ℤ, nat_abs, ◌-ℤ◌, Option, Some, None, unwrap_or}
 use Rattle.std.specs.Int.Signed.{lt_z}
 use Rattle.answer.specs.Commands.{place_s, place_ta}
 use Rattle.answer.specs.declared.answer.Answer.{Answer}
@@ -32,7 +32,7 @@ net_of w = gross_of w -ℤ pos w.tare.0
 
 -- a weight as it is printed
 abbrev pub number_in : Resolution → ℤ → Number
-number_in r weight = record { decimals = r.decimals; places = (printed_number r weight).places; unit = r.unit; coarse = r.coarse }
+number_in r weight = record { decimals = r.decimals; places = unwrap_or (printed_number r weight) (record { 0 = pos 0 }); unit = r.unit; coarse = r.coarse }
 
 -- the resolution in force, by the weight that decides (document 02, No. 7)
 abbrev pub resolution_by : Scale → ℤ → Resolution
@@ -45,6 +45,10 @@ stability w = cond w.stable S D
 abbrev pub chosen_weighing : Bool → Weighing → Weighing → Weighing
 chosen_weighing true a b = a
 chosen_weighing false a b = b
+
+-- the status by two tests: + or -, if any
+abbrev pub beyond : Bool → Bool → Option Status
+beyond over under = cond over (Some Over) (cond under (Some Under) None)
 
 -- the answer by two tests: +, - or what is granted
 abbrev pub in_limits : ℕ → Bool → Bool → Answer → Answer

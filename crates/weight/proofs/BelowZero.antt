@@ -2,9 +2,9 @@
 -- Assumes nothing.
 use mathlib.Core.Path.{◌≡◌, refl, sym, ap, ◌∙◌}
 use mathlib.Core.Logic.{⊎_elim}
-use mathlib.Core.Bool.{true, false}
+use mathlib.Core.Bool.{Bool, true, false, ◌&&◌}
 use Prim.Native.Nat.{ℕ, zero, suc, ◌+◌, ◌-◌, ◌*◌, ◌/◌, ◌^◌, ◌≤◌, ◌<◌}
-use native.Mathlib.Nat.{mul-pos, mul-le-mul, mul-le-mul_right, le_of_suc-le-suc, mul-lt-mul_of_pos_right, lt_of_mul-lt-mul_right, one-le-pow, pow-suc}
+use native.Mathlib.Nat.{mul-pos, mul-le-mul_right, mul-lt-mul_of_pos_right, lt_of_mul-lt-mul_right, one-le-pow, pow-suc}
 use native.Mathlib.Omega.{arith}
 use borrow.Author.Tests.{le-leb, le-ltb, lt-ltb, ltb-true}
 use lib.Dec.{ltb}
@@ -13,11 +13,10 @@ use Rattle.weight.specs.declared.rounding.Resolution.{Resolution}
 use Rattle.weight.specs.Units.{nanograms_of}
 use Rattle.weight.specs.Rounding.{allowed_resolution, half_up}
 use Rattle.weight.specs.Places.{fits_field}
-use Rattle.weight.specs.Printing.{fits_below_zero}
+use Rattle.weight.specs.Printing.{fits_below_zero, is_short}
 use Rattle.weight.specs.Ranges.{ranged, fits_coarse}
 use Rattle.weight.proofs.Allowed.{nanograms_least, nanograms_positive, allowed_decimals, allowed_known, allowed_least_step, allowed_of, allowed_step, allowed_step_positive, allowed_step_limit}
 use Rattle.weight.proofs.Monotone.{natural_places, places_of_negated}
-use Rattle.weight.proofs.Range.{scale_limit}
 use Rattle.weight.proofs.Width.{tests_agree, div_test, fits_limit, facts_fit}
 
 -- a rounded number in steps of k, where k divides the limit: nothing is rounded if both sides are multiplied
@@ -76,9 +75,6 @@ module _ (r : Resolution) (m : ℕ) (allowed : allowed_resolution r ≡ true) wh
       (step_divides r allowed)
 
   module _ (small : m < 2 ^ 32) where
-    pub scaled_limit : scaled r m ≤ 4_294_967_295 * 1_000_000_000
-    scaled_limit = mul-le-mul (le_of_suc-le-suc small) (scale_limit r.decimals (allowed_decimals r allowed))
-
     -- without decimals it always is, since every unit has a million nanograms or more
     few_places : r.decimals ≡ 0 → natural_places r m < 100_000_000
     few_places e =
@@ -87,10 +83,19 @@ module _ (r : Resolution) (m : ℕ) (allowed : allowed_resolution r ≡ true) wh
         let below : scaled r m + scaled r m + display_step r < nanograms_of r.unit * 200_000_000 = omega (arith, nanograms_least r.unit) in
         ltb-true _ _ (places_test ∙ lt-ltb _ _ below)
 
-    pub below_zero_test : ltb (scaled r m + scaled r m + display_step r) (nanograms_of r.unit * 200_000_000) ≡ fits_below_zero r m
+    below_zero_test : ltb (2 * scaled r m + 1 * display_step r) (nanograms_of r.unit * 200_000_000) ≡ fits_below_zero r m
     below_zero_test =
-        rw (allowed, places_of_negated r m, eight_digits r.decimals (natural_places r m) (allowed_decimals r allowed) few_places)
+        let same : 2 * scaled r m + 1 * display_step r ≡ scaled r m + scaled r m + display_step r = omega arith in
+        rw (same, allowed, places_of_negated r m, eight_digits r.decimals (natural_places r m) (allowed_decimals r allowed) few_places)
         (sym places_test)
+
+-- whether it is allowed or not
+pub below_zero_short : (r : Resolution) (m : ℕ) → m < 2 ^ 32 → is_short 1 r m ≡ fits_below_zero r m
+below_zero_short r m small = go (allowed_resolution r) refl
+  where
+    go : (b : Bool) → allowed_resolution r ≡ b → is_short 1 r m ≡ fits_below_zero r m
+    go true e = ap (λ (t : Bool). t && ltb (2 * scaled r m + 1 * display_step r) (nanograms_of r.unit * 200_000_000)) e ∙ below_zero_test r m e small
+    go false e = rw e
 
 -- ---- the coarse range
 
@@ -112,11 +117,11 @@ module _ (r : Resolution) (m : ℕ) (two : 2 ≤ r.decimals) (allowed : allowed_
   coarse = ranged true r
 
   -- the number has seven digits, and seven digits of coarse places are eight of fine ones
-  pub coarse_test : ltb (scaled r m + scaled r m + 10 * display_step r) (nanograms_of r.unit * 200_000_000) ≡ fits_coarse r m
+  coarse_test : ltb (2 * scaled r m + 10 * display_step r) (nanograms_of r.unit * 200_000_000) ≡ fits_coarse r m
   coarse_test =
       let held : allowed_resolution coarse ≡ true = coarse_allowed_lem r (omega (arith, two)) allowed in
       let scale : scaled r m ≡ 10 * scaled coarse m = omega (arith, ap (λ (x : ℕ). m * (1000 * x)) (ten_times r.decimals (omega (arith, two)))) in
-      let left : scaled r m + scaled r m + 10 * display_step r ≡ 10 * (scaled coarse m + scaled coarse m + display_step coarse) = omega (arith, scale) in
+      let left : 2 * scaled r m + 10 * display_step r ≡ 10 * (scaled coarse m + scaled coarse m + display_step coarse) = omega (arith, scale) in
       let right : nanograms_of r.unit * 200_000_000 ≡ 10 * (nanograms_of r.unit * (2 * 10_000_000)) = omega arith in
       let x : ℕ = scaled coarse m + scaled coarse m + display_step coarse in
       let y : ℕ = nanograms_of r.unit * (2 * 10_000_000) in
@@ -132,3 +137,10 @@ module _ (r : Resolution) (m : ℕ) (two : 2 ≤ r.decimals) (allowed : allowed_
           rw same (seven_digits d n (omega arith))
       seven (suc zero) n h k = absurd (omega arith)
       seven zero n h k = absurd (omega arith)
+
+pub coarse_short : (r : Resolution) (m : ℕ) → 2 ≤ r.decimals → is_short 10 r m ≡ fits_coarse r m
+coarse_short r m two = go (allowed_resolution r) refl
+  where
+    go : (b : Bool) → allowed_resolution r ≡ b → is_short 10 r m ≡ fits_coarse r m
+    go true e = ap (λ (t : Bool). t && ltb (2 * scaled r m + 10 * display_step r) (nanograms_of r.unit * 200_000_000)) e ∙ coarse_test r m two e
+    go false e = rw (le-leb 2 r.decimals two, e)

@@ -1,9 +1,9 @@
 -- Rounding a natural number to the nearest multiple, a tie upwards.
 -- Assumes nothing.
-use Prim.Native.Nat.{ℕ, zero, suc, ◌+◌, ◌*◌, ◌/◌, ◌%◌, ◌≤◌, ◌<◌}
-use native.Mathlib.Nat.{div-zero, div-eq_of_lt, div-mul-le_self, lt-div-mul-add, div-add-mod', mod-lt, div-eq_of_lt-le, div-lt_iff_lt-mul, le-div_iff_mul-le, mul-le-mul_left, mul-le-mul_right, mul-pos, suc-mul, mul_left_comm, le_of_suc-le-suc}
+use Prim.Native.Nat.{ℕ, zero, suc, ◌+◌, ◌-◌, ◌*◌, ◌/◌, ◌%◌, ◌≤◌, ◌<◌}
+use native.Mathlib.Nat.{div-zero, div-eq_of_lt, div-mul-le_self, lt-div-mul-add, div-add-mod', mod-eq-sub-div-mul, mod-lt, div-eq_of_lt-le, div-lt_iff_lt-mul, le-div_iff_mul-le, mul-le-mul_left, mul-le-mul_right, mul-pos, suc-mul, mul_left_comm, le_of_suc-le-suc}
 use native.Mathlib.Omega.{arith}
-use mathlib.Core.Path.{◌≡◌, refl, ap}
+use mathlib.Core.Path.{◌≡◌, refl, sym, ap}
 use Rattle.weight.specs.Rounding.{half_up}
 
 -- the rounded multiple of n is less than half of n below m: a tie goes up
@@ -72,3 +72,11 @@ half_up_scaled m s e t product h k =
     (rw (← product) (mul-pos h k))
     (omega (arith, mul-le-mul_right e (half_up_not_over m s), ap (λ (x : ℕ). x * half_up m s) product, product))
     (omega (arith, mul-le-mul_right e (half_up_tie_up m s h), ap (λ (x : ℕ). x * half_up m s) product, product))
+
+-- ---- the rest is what the product of the quotient leaves
+
+pub half_up_below : (m n : ℕ) → 0 < n → (m - m / n * n) + (m - m / n * n) < n → m / n ≡ half_up m n
+half_up_below m n h rest = sym (half_up_stays m n h (omega (arith, mod-eq-sub-div-mul m n)))
+
+pub half_up_above : (m n : ℕ) → 0 < n → n ≤ (m - m / n * n) + (m - m / n * n) → m / n + 1 ≡ half_up m n
+half_up_above m n h rest = sym (half_up_rises m n h (omega (arith, mod-eq-sub-div-mul m n)))

@@ -1,12 +1,10 @@
 pub mod Allowed
 mod BelowZero
-mod Differences
 pub mod Digits
 pub mod EveryNet
 pub mod HalfStep
 mod HalfUp
 pub mod Machine
-pub mod Matching
 pub mod Monotone
 pub mod Moves
 pub mod Nearness
@@ -14,9 +12,9 @@ mod Nearest
 pub mod Presets
 mod Printable
 mod Range
+mod Remainders
 pub mod Coarse
 pub mod SignedPlaces
 pub mod Sure
 pub mod TypedLimit
-mod Widening
 pub mod Width

@@ -3,24 +3,23 @@
 use mathlib.Core.Path.{◌≡◌, refl, sym, ap, ◌∙◌}
 use mathlib.Core.Bool.{true, false, not}
 use Prim.Native.Nat.{ℕ, zero, suc, ◌+◌, ◌/◌, ◌%◌, ◌<◌, ◌≤◌, ◌^◌}
-use native.Mathlib.Nat.{mod-lt, lt_of_le_of_lt}
+use native.Mathlib.Nat.{lt_of_le_of_lt}
 use native.Mathlib.Omega.{arith}
 use native.Mathlib.Numerals.{add-one}
-use lib.IntN.{ℤ, pos, negsuc, neg_ℤ, nat_abs, ◌+ℤ◌, -ℤ_one, pred_ℤ}
-use lib.Signed.{non_neg, quot_z, rem_z}
+use lib.IntN.{ℤ, pos, negsuc, neg_ℤ, nat_abs, ◌+ℤ◌, ◌-ℤ◌, -ℤ_one, pred_ℤ}
+use lib.Signed.{non_neg, quot_z, rem_z, lt_z}
 use mir.Syntax.{w64}
-use mir.Val.{SFits}
+use mir.Val.{SFits, to_z, of_z}
+use mir.Facts.{to_z-of_z}
 use Rattle.weight.specs.Rounding.{round_away}
 use Rattle.weight.proofs.HalfUp.{half_up_stays, half_up_rises, half_up_within}
+use Rattle.weight.proofs.Machine.{quotient_fits, rest_fits, negative_gives}
 use Rattle.weight.proofs.Nearness.{size_opposite}
 
 -- the size of the rest is the rest of the size
 pub rest_size : (x : ℤ) (n : ℕ) → nat_abs (rem_z x (pos n)) ≡ nat_abs x % n
 rest_size (pos m) n = refl
 rest_size (negsuc m) n = size_opposite (suc m % n)
-
-pub rest_below : (x : ℤ) (n : ℕ) → 0 < n → nat_abs (rem_z x (pos n)) < n
-rest_below x n h = rw rest_size (mod-lt (nat_abs x) h)
 
 -- one further from zero
 neg_less : (m : ℕ) → pred_ℤ (neg_ℤ (pos m)) ≡ neg_ℤ (pos (suc m))
@@ -59,3 +58,31 @@ size_fits (negsuc m) h = record { sfits = omega arith }
 
 pub away_fits : (x : ℤ) (n : ℕ) → 0 < n → nat_abs x < 2 ^ 63 → SFits w64 (round_away x n)
 away_fits x n h k = size_fits (round_away x n) (lt_of_le_of_lt (away_within x n h) k)
+
+-- ---- the same in machine words
+
+abbrev pub word : ℤ → ℤ
+word z = to_z w64 (of_z w64 z)
+
+module _ (x : ℤ) (n : ℕ) (h : 0 < n) (small : nat_abs x < 2 ^ 63) {q z : ℤ} {s : ℕ}
+    (quotient : q ≡ quot_z (word x) (pos n)) (rest : z ≡ rem_z (word x) (pos n)) (size : s ≡ nat_abs (word z)) where
+  known : SFits w64 x
+  known = size_fits x small
+
+  divided : word q ≡ quot_z x (pos n)
+  divided = rw (quotient, to_z-of_z known) (to_z-of_z (quotient_fits n known))
+
+  left : s ≡ nat_abs (rem_z x (pos n))
+  left = rw (size, rest, to_z-of_z known, to_z-of_z (rest_fits n known))
+
+  rounded : {y : ℤ} → y ≡ round_away x n → word y ≡ round_away x n
+  rounded e = rw e (to_z-of_z (away_fits x n h small))
+
+  pub word_stays : s + s < n → word q ≡ round_away x n
+  word_stays k = divided ∙ stays x n h (rw left at k)
+
+  pub word_rises : n ≤ s + s → lt_z (word x) (pos 0) ≡ false → word (word q +ℤ pos 1) ≡ round_away x n
+  word_rises k e = rounded (ap (λ (v : ℤ). v +ℤ pos 1) divided ∙ rises x n h (rw left at k) (sym (negative_gives x known) ∙ e))
+
+  pub word_falls : n ≤ s + s → lt_z (word x) (pos 0) ≡ true → word (word q -ℤ pos 1) ≡ round_away x n
+  word_falls k e = rounded (ap (λ (v : ℤ). v -ℤ pos 1) divided ∙ falls x n h (rw left at k) (sym (negative_gives x known) ∙ e))

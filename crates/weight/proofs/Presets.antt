@@ -3,17 +3,21 @@
 use Prim.Native.Nat.{ℕ, ◌+◌, ◌*◌, ◌^◌, ◌≤◌, ◌<◌}
 use native.Mathlib.Nat.{mul-pos, mul-le-mul, mul-le-mul_right, le_of_mul-le-mul_left, eq-or-lt_of_le}
 use native.Mathlib.Omega.{arith}
-use mathlib.Core.Path.{◌≡◌, sym, ap, ◌∙◌}
+use mathlib.Core.Path.{◌≡◌, ap, ◌∙◌}
 use mathlib.Core.Logic.{◌⊎◌, inl, inr}
-use mathlib.Core.Bool.{Bool, true, false, ◌&&◌, and-eq-true_iff}
-use borrow.Author.Tests.{leb-true}
+use mathlib.Core.Bool.{true, false, ◌&&◌}
 use lib.Dec.{leb}
 use lib.IntN.{pos}
+use mir.Syntax.{w64}
+use mir.Val.{Fits}
+use Rattle.std.specs.Prelude.{Result, Err}
+use Rattle.weight.specs.declared.rounding.Allowed.{Allowed}
 use Rattle.weight.specs.declared.rounding.Resolution.{Resolution}
 use Rattle.weight.specs.Units.{nanograms_of}
 use Rattle.weight.specs.Rounding.{allowed_resolution, half_up, places_of, exact_femtograms, Near}
-use Rattle.weight.specs.declared.amount.Typed.{Typed}
-use Rattle.weight.specs.declared.amount.Typed.TheVariants.{NotTyped}
+use Rattle.weight.specs.declared.amount.NoAmount.{NoAmount}
+use Rattle.weight.specs.declared.amount.NoAmount.TheVariants.{NotTyped}
+use Rattle.weight.specs.declared.amount.Tare.{Tare}
 use Rattle.weight.specs.Amounts.{typed_micrograms, typed_amount}
 use Rattle.weight.specs.Presets.{largest_typed, preset_steps, preset_places, preset_micrograms, preset_femtograms, preset_amount}
 use Rattle.weight.proofs.Allowed.{allowed_decimals, allowed_least_step, allowed_step_positive, allowed_step_limit, power_positive, power_limit}
@@ -56,6 +60,27 @@ preset_places_small r d v allowed few small =
     let by : r.step * 10 ^ d ≤ 5 * 1_000_000 = mul-le-mul (allowed_step_limit r allowed) (power_limit d few) in
     let grows : 1 * (steps * r.step) ≤ 10 ^ d * (steps * r.step) = mul-le-mul_right (steps * r.step) (power_positive d) in
     omega (arith, half_up_not_over (v * 10 ^ r.decimals) (r.step * 10 ^ d))
+
+-- ---- the same of the scales s and t that the machine has
+
+module _ (r : Resolution) (v : ℕ) (allowed : allowed_resolution r ≡ true) (small : v ≤ largest_typed) {s : ℕ} (scale : s ≡ 1000 * 10 ^ r.decimals) where
+  pub exact_bound : v * s + 1 < 2 ^ 64
+  exact_bound = rw scale (preset_exact_small r.decimals v (allowed_decimals r allowed) small)
+
+  pub exact_fits : Fits w64 (v * s)
+  exact_fits = record { fits = omega (arith, exact_bound) }
+
+  module _ (d : ℕ) (few : d ≤ 6) {t : ℕ} (by : t ≡ 1000 * 10 ^ d) where
+    pub by_positive : 0 < r.step * t
+    by_positive = rw by (preset_by_small r d allowed few).0
+
+    module _ {n : ℕ} (steps : n ≡ half_up (v * s) (r.step * t)) where
+      pub places_are : n * r.step ≡ preset_places r d v
+      unfolding preset_places
+      places_are = ap (λ (x : ℕ). x * r.step) (rw (steps, scale, by) (preset_scaled r d v (allowed_step_positive r allowed)))
+
+      pub places_fit_word : Fits w64 (n * r.step)
+      places_fit_word = record { fits = omega (arith, places_are, preset_places_small r d v allowed few small) }
 
 -- a number of whole steps with the resolution's decimals stays
 pub preset_of_steps : (r : Resolution) (n : ℕ) → 0 < r.step → preset_steps r r.decimals (n * r.step) ≡ n
@@ -109,32 +134,23 @@ module _ (r : Resolution) (d v : ℕ) (allowed : allowed_resolution r ≡ true) 
   unfolding preset_micrograms preset_femtograms
   preset_rounded = typed_rounded r.unit r.decimals (preset_places r d v) (allowed_decimals r allowed)
 
--- ---- the three tests
+-- ---- the tests
 
-pub record Preset (r : Resolution) (d v : ℕ) : Type 0 where
-  pub allowed : allowed_resolution r ≡ true
-  pub few : d ≤ 6
-  pub small : v ≤ largest_typed
-
-module _ (r : Resolution) (d v : ℕ) {a : Bool} (tested : a ≡ allowed_resolution r) where
-  pub preset_tests : (a && leb d 6 && leb v largest_typed) ≡ true → Preset r d v
-  preset_tests e =
-      let first = (and-eq-true_iff (a && leb d 6) (leb v largest_typed)).0 e in
-      let second = (and-eq-true_iff a (leb d 6)).0 first.0 in
-      record { allowed = sym tested ∙ second.0; few = leb-true d 6 second.1; small = leb-true v largest_typed first.1 }
-
-  pub preset_read : {places : ℕ} {n : Typed}
-      → (a && leb d 6 && leb v largest_typed) ≡ true
-      → places ≡ preset_places r d v
-      → n ≡ typed_amount r.unit r.decimals places
-      → n ≡ preset_amount r d v
-  unfolding preset_amount preset_micrograms
-  preset_read {places} e same read =
-      let t = preset_tests e in
-      read
-      ∙ typed_amount_lem r.unit r.decimals places (allowed_decimals r t.allowed)
-      ∙ rw (same, ← tested, e)
-
-  pub preset_not : (a && leb d 6 && leb v largest_typed) ≡ false → NotTyped ≡ preset_amount r d v
+module _ (r : Resolution) (d v : ℕ) where
+  pub preset_refused : allowed_resolution r ≡ false → Err NotTyped ≡ preset_amount r d v
   unfolding preset_amount
-  preset_not e = rw (← tested, e)
+  preset_refused e = rw e
+
+  module _ (a : Allowed) (same : a.resolution ≡ r) where
+    allowed : allowed_resolution r ≡ true
+    allowed = rw same at a.holds
+
+    pub preset_not : (leb d 6 && leb v largest_typed) ≡ false → Err NotTyped ≡ preset_amount r d v
+    unfolding preset_amount
+    preset_not e = rw (allowed, e)
+
+    pub preset_read : {places : ℕ} {n : Result Tare NoAmount} → (leb d 6 && leb v largest_typed) ≡ true
+        → places ≡ preset_places a.resolution d v → n ≡ typed_amount r.unit r.decimals places → n ≡ preset_amount r d v
+    unfolding preset_amount preset_micrograms
+    preset_read {places} e found read =
+        read ∙ typed_amount_lem r.unit r.decimals places (allowed_decimals r allowed) ∙ rw (found, same, allowed, e)

@@ -2,21 +2,20 @@
 -- Assumes nothing.
 use mathlib.Core.Path.{◌≡◌, refl, sym, ◌∙◌}
 use mathlib.Core.Logic.{⊎_elim}
-use mathlib.Core.Bool.{Bool, true, false, cond, not, ◌&&◌, ◌||◌, and-false}
+use mathlib.Core.Bool.{Bool, true, false, cond, not, ◌&&◌, ◌||◌, and-false, true≢false}
 use Prim.Native.Nat.{ℕ, ◌+◌, ◌*◌, ◌^◌, ◌≤◌, ◌<◌}
 use native.Mathlib.Nat.{mul-le-mul, mul-le-mul_right, pow-le-pow_right, lt_of_le_of_lt}
 use native.Mathlib.Omega.{arith}
-use borrow.Author.Tests.{le-leb, lt-leb, lt-ltb, leb-true, not-true, not-false}
-use lib.Dec.{leb, eqb, lit<, lit≤}
+use borrow.Author.Tests.{le-leb, le-ltb, lt-ltb, leb-true, leb-false, ltb-false, not-false}
+use lib.Dec.{leb, ltb, lit<, lit≤}
 use Rattle.weight.specs.declared.rounding.Resolution.{Resolution}
 use Rattle.weight.specs.declared.units.WeightUnit.{WeightUnit}
 use Rattle.weight.specs.declared.units.WeightUnit.TheVariants.{G, Mg, Ct, Oz, Ozt, Gn, Dwt, Kg, Lb}
 use Rattle.weight.specs.Units.{nanograms_of}
 use Rattle.weight.specs.Rounding.{allowed_resolution}
-use Rattle.weight.specs.Printing.{fits_below_zero, is_known_step, is_near, largest_reach, sure_decimals, surely_fits}
-use Rattle.weight.proofs.Allowed.{both_left, both_right, known_step, few_decimals, too_many_decimals}
-use Rattle.weight.specs.Ranges.{fits_coarse}
-use Rattle.weight.proofs.BelowZero.{scaled, display_step, below_zero_test, coarse_test}
+use Rattle.weight.specs.Printing.{fits_below_zero, is_known_step, is_short, is_near, largest_reach, sure_decimals, surely_fits}
+use Rattle.weight.proofs.Allowed.{both_left, both_right, neither_left, neither_right, known_step, few_decimals, too_many_decimals}
+use Rattle.weight.proofs.BelowZero.{scaled, display_step, below_zero_short}
 
 -- the sizes up to which the quick test's decimals are meant
 abbrev pub reach_of : Bool → ℕ
@@ -74,20 +73,13 @@ module _ (r : Resolution) (m : ℕ) (near : Bool) (few : r.decimals ≤ sure_dec
       sym (few_decimals r up_to_six)
       ∙ rw (e, le-leb (1000 * 10 ^ r.decimals) (r.step * nanograms_of r.unit) (omega (arith, scale_least, sure.least)))
 
-  below_coarse : scaled r m + scaled r m + 10 * display_step r < nanograms_of r.unit * 200_000_000
-  below_coarse =
+  -- what is asked for one step more is so for up to ten
+  pub sure_short : (n : ℕ) → n ≤ 10 → true ≡ is_short n r m
+  sure_short n few =
       let scaledMost : scaled r m ≤ reach_of near * (1000 * 10 ^ sure_decimals near r.unit) = mul-le-mul small scale_least in
       let stepMost : display_step r ≤ 5 * nanograms_of r.unit = mul-le-mul_right (nanograms_of r.unit) limited in
-      omega (arith, sure.fits)
-
-  below : scaled r m + scaled r m + display_step r < nanograms_of r.unit * 200_000_000
-  below = omega (arith, below_coarse)
-
-  pub sure_fits : m < 2 ^ 32 → true ≡ fits_below_zero r m
-  sure_fits word = sym (lt-ltb _ _ below) ∙ below_zero_test r m sure_allowed word
-
-  pub sure_coarse : 2 ≤ r.decimals → true ≡ fits_coarse r m
-  sure_coarse two = sym (lt-ltb _ _ below_coarse) ∙ coarse_test r m two sure_allowed
+      let stepsMost : n * display_step r ≤ 10 * (5 * nanograms_of r.unit) = mul-le-mul few stepMost in
+      rw sure_allowed (sym (lt-ltb (2 * scaled r m + n * display_step r) (nanograms_of r.unit * 200_000_000) (omega (arith, sure.fits))))
 
 -- a size below the largest reach is a word's
 pub in_word_lem : (m : ℕ) → m ≤ largest_reach → m < 2 ^ 32
@@ -98,29 +90,24 @@ pub unknown_step : (r : Resolution) → is_known_step r.step ≡ false → allow
 unfolding allowed_resolution
 unknown_step r e = rw (e, and-false (leb r.decimals 6))
 
--- ---- each way of the close test
+-- ---- each way of the test
 
-module _ (r : Resolution) (m : ℕ) where
-  pub too_far : largest_reach < m → false ≡ (leb m largest_reach && fits_below_zero r m)
-  too_far h = rw (lt-leb m largest_reach h)
+module _ (r : Resolution) (m n : ℕ) {k : Bool} (known : k ≡ is_known_step r.step) where
+  pub never_short : ltb largest_reach m || ltb 6 r.decimals || not k ≡ true → false ≡ (leb m largest_reach && is_short n r m)
+  never_short e = go (leb m largest_reach) refl (leb r.decimals 6) refl k refl
+    where
+      go : (a : Bool) → leb m largest_reach ≡ a → (b : Bool) → leb r.decimals 6 ≡ b → (t : Bool) → k ≡ t → false ≡ (leb m largest_reach && is_short n r m)
+      go false f b g t h = rw f
+      go true f false g t h = rw (f, ← too_many_decimals r (leb-false r.decimals 6 g))
+      go true f true g false h = rw (f, unknown_step r (sym known ∙ h))
+      go true f true g true h = absurd (true≢false (sym e ∙ rw (le-ltb 6 r.decimals (leb-true r.decimals 6 g), le-ltb largest_reach m (leb-true m largest_reach f), h)))
 
-  module _ (small : m ≤ largest_reach) {k : Bool} (known : k ≡ is_known_step r.step) where
-    pub step_unknown : not k ≡ true → false ≡ (leb m largest_reach && fits_below_zero r m)
-    step_unknown e = rw (le-leb m largest_reach small, unknown_step r (sym known ∙ not-true k e))
-
-    module _ (e : not k ≡ false) {n : ℕ} (most : n ≡ sure_decimals false r.unit) where
-      pub few_enough : r.decimals ≤ n → true ≡ (leb m largest_reach && fits_below_zero r m)
-      few_enough few = rw (le-leb m largest_reach small) (sure_fits r m false (rw most at few) small (sym known ∙ not-false k e) (in_word_lem m small))
-
-      module _ (more : n < r.decimals) where
-        pub too_many : 6 < r.decimals → false ≡ (leb m largest_reach && fits_below_zero r m)
-        too_many h = rw (le-leb m largest_reach small, ← too_many_decimals r h)
-
-        pub light_unit : r.decimals ≤ 6 → nanograms_of r.unit ≤ 1_555_173_840
-        light_unit h = (sure_of false r.unit).light (omega (arith, most))
-
-  pub closely : m ≤ largest_reach → {b : Bool} → b ≡ fits_below_zero r m → b ≡ (leb m largest_reach && fits_below_zero r m)
-  closely small e = rw (le-leb m largest_reach small) e
+  pub surely_short : n ≤ 10 → ltb largest_reach m || ltb 6 r.decimals || not k ≡ false → r.decimals ≤ sure_decimals false r.unit
+      → true ≡ (leb m largest_reach && is_short n r m)
+  surely_short few e sure =
+      let reach : ltb largest_reach m ≡ false = neither_left (ltb largest_reach m) _ (neither_left (ltb largest_reach m || ltb 6 r.decimals) _ e) in
+      let small : m ≤ largest_reach = ltb-false largest_reach m reach in
+      rw (le-leb m largest_reach small) (sure_short r m false sure small (sym known ∙ not-false k (neither_right (ltb largest_reach m || ltb 6 r.decimals) _ e)) n few)
 
 -- the quick test
 pub surely_fits_lem : (r : Resolution) (m : ℕ) → surely_fits r m ≡ true → (leb m largest_reach && fits_below_zero r m) ≡ true
@@ -130,8 +117,8 @@ surely_fits_lem r m h =
     let few = leb-true r.decimals (sure_decimals (is_near m) r.unit) (both_right (leb m largest_reach && is_known_step r.step) (leb r.decimals (sure_decimals (is_near m) r.unit)) h) in
     let small = leb-true m largest_reach (both_left (leb m largest_reach) (is_known_step r.step) first) in
     let known = both_right (leb m largest_reach) (is_known_step r.step) first in
-    rw (le-leb m largest_reach small) (by (is_near m) refl few small known)
+    rw (le-leb m largest_reach small, ← below_zero_short r m (in_word_lem m small)) (by (is_near m) refl few small known)
   where
-    by : (near : Bool) → is_near m ≡ near → r.decimals ≤ sure_decimals near r.unit → m ≤ largest_reach → is_known_step r.step ≡ true → fits_below_zero r m ≡ true
-    by true e few small known = sym (sure_fits r m true few (leb-true m 600_000_000 e) known (in_word_lem m small))
-    by false e few small known = sym (sure_fits r m false few small known (in_word_lem m small))
+    by : (near : Bool) → is_near m ≡ near → r.decimals ≤ sure_decimals near r.unit → m ≤ largest_reach → is_known_step r.step ≡ true → is_short 1 r m ≡ true
+    by true e few small known = sym (sure_short r m true few (leb-true m 600_000_000 e) known 1 (omega arith))
+    by false e few small known = sym (sure_short r m false few small known 1 (omega arith))

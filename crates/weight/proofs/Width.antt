@@ -125,6 +125,11 @@ fits_limit c d n = go (decimals_fit c d) refl
     go true e = rw (number_limit d (characters_in c) n (decimals_few c d e))
     go false e = rw e
 
+-- by the tests of the decimals, the sign and the size
+pub fits_tested : (c : Bool) (d : ℕ) (n : ℤ) {few negative : Bool} {m p : ℕ} → few ≡ decimals_fit c d → negative ≡ not (non_neg n) → m ≡ nat_abs n
+    → p ≡ 10 ^ (characters_in c - point_width d - cond negative 1 0) → few && ltb m p ≡ fits_field c d n
+fits_tested c d n e f g h = rw (h, g, f, e, fits_limit c d n)
+
 -- the characters of a number: its minus and its size
 pub width_parts : (d : ℕ) (n : ℤ) → width_of d n ≡ minus_width n + length (decimal_of d (nat_abs n))
 unfolding width_of number_text

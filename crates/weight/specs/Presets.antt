@@ -1,9 +1,10 @@
 -- Document 02, No. 3: a typed tare (the field's preset tare) in two roundings, in the paper's order.
 -- Assumes nothing.
-use Rattle.std.specs.Prelude.{ℕ, ◌*◌, ◌^◌, cond, ◌&&◌, leb}
+use Rattle.std.specs.Prelude.{ℕ, ◌*◌, ◌^◌, cond, ◌&&◌, leb, Result, Err}
 use Rattle.weight.specs.declared.rounding.Resolution.{Resolution}
-use Rattle.weight.specs.declared.amount.Typed.{Typed}
-use Rattle.weight.specs.declared.amount.Typed.TheVariants.{NotTyped}
+use Rattle.weight.specs.declared.amount.NoAmount.{NoAmount}
+use Rattle.weight.specs.declared.amount.NoAmount.TheVariants.{NotTyped}
+use Rattle.weight.specs.declared.amount.Tare.{Tare}
 use Rattle.weight.specs.Amounts.{typed_micrograms, typed_femtograms, amount_of}
 use Rattle.weight.specs.Rounding.{half_up, allowed_resolution}
 
@@ -28,6 +29,6 @@ abbrev pub largest_typed : ℕ
 largest_typed = 9_999_999_999
 
 -- as a number that is typed: of up to ten digits, up to 6 of them decimals, and to a resolution that a profile may have
-unfoldable pub preset_amount : Resolution → ℕ → ℕ → Typed
+unfoldable pub preset_amount : Resolution → ℕ → ℕ → Result Tare NoAmount
 preset_amount r d v =
-    cond (allowed_resolution r && leb d 6 && leb v largest_typed) (amount_of (preset_micrograms r d v)) NotTyped
+    cond (allowed_resolution r && leb d 6 && leb v largest_typed) (amount_of (preset_micrograms r d v)) (Err NotTyped)

@@ -1,10 +1,11 @@
 -- Document 01, "Weights": the printed number of a net weight, and whether it fits ten characters ("The profile").
 -- Assumes nothing.
-use Rattle.std.specs.Prelude.{ℕ, Bool, true, false, cond, ◌&&◌, ◌||◌, leb, eqb, ℤ, pos, neg_ℤ}
-use Rattle.weight.specs.declared.printing.Printed.{Printed}
+use Rattle.std.specs.Prelude.{ℕ, ◌+◌, ◌*◌, ◌^◌, Bool, true, false, cond, ◌&&◌, ◌||◌, leb, ltb, eqb, ℤ, pos, neg_ℤ, Option, Some, None}
+use Rattle.weight.specs.declared.rounding.LastPlaces.{LastPlaces}
 use Rattle.weight.specs.declared.rounding.Resolution.{Resolution}
 use Rattle.weight.specs.declared.units.WeightUnit.{WeightUnit}
 use Rattle.weight.specs.declared.units.WeightUnit.TheVariants.{G, Mg, Ct, Oz, Ozt, Gn, Dwt, Kg, Lb}
+use Rattle.weight.specs.Units.{nanograms_of}
 use Rattle.weight.specs.Rounding.{allowed_resolution, in_range, places_of}
 use Rattle.weight.specs.Places.{fits_field}
 
@@ -12,10 +13,9 @@ use Rattle.weight.specs.Places.{fits_field}
 unfoldable pub printable : Resolution → ℤ → Bool
 printable r net = allowed_resolution r && in_range net && fits_field r.coarse r.decimals (places_of r net)
 
--- the number of last places; 0 beside `false` where there is none
-unfoldable pub printed_number : Resolution → ℤ → Printed
-printed_number r net =
-    record { fits = printable r net; places = record { 0 = cond (printable r net) (places_of r net) (pos 0) } }
+-- the number of last places
+unfoldable pub printed_number : Resolution → ℤ → Option LastPlaces
+printed_number r net = cond (printable r net) (Some (record { 0 = places_of r net })) None
 
 -- the resolution is allowed, and the number of a net of m micrograms below zero fits ten characters
 abbrev pub fits_below_zero : Resolution → ℕ → Bool
@@ -24,6 +24,14 @@ fits_below_zero r m = allowed_resolution r && fits_field false r.decimals (place
 -- the most that U and C of a profile give together, in micrograms
 abbrev pub largest_reach : ℕ
 largest_reach = 2_000_000_000
+
+-- ---- without a division: a number is below 10^8 when twice the exact steps, of m micrograms, and one step more are below 2 x 10^8 last
+-- places, all of it times 1,000 x 10^d; coarse, below 10^7, with ten steps more
+
+abbrev pub is_short : ℕ → Resolution → ℕ → Bool
+is_short n r m =
+    allowed_resolution r
+    && ltb (2 * (m * (1000 * 10 ^ r.decimals)) + n * (r.step * nanograms_of r.unit)) (nanograms_of r.unit * 200_000_000)
 
 -- ---- a quick test: with few decimals every net of that size fits, whatever the step
 

@@ -7,13 +7,12 @@ use crate::rounding::scale_of;
 use crate::units::{WeightUnit, nanograms_of};
 
 // A tare, in micrograms: it is never below zero.
-#[derive(Clone, Copy)]
+#[derive(Clone, Copy, PartialEq, Eq)]
 pub struct Tare(pub u32);
 
-// What a typed number is taken as.
-#[derive(Clone, Copy)]
-pub enum Typed {
-    Amount(Tare),
+// Why a typed number is no amount.
+#[derive(Clone, Copy, PartialEq, Eq)]
+pub enum NoAmount {
     // Above the largest capacity of any profile.
     TooLarge,
     NotTyped,
@@ -49,25 +48,28 @@ pub fn half_up(value: u64, by: u64) -> u64
     let quotient = value / by;
     let rest = value - quotient * by;
     if by <= rest + rest {
-        return quotient + 1;
+        quotient + 1
+    } else {
+        quotient
     }
-    quotient
 }
 
-// `value` last places with `decimals` decimals as an amount.
-pub fn typed_amount(unit: WeightUnit, decimals: u8, value: u64) -> Typed
+// `value` last places with `decimals` decimals as an amount. Stays two numbers, here and where such a number is rounded or compared: the
+// definitions of specs/ take them apart, and a struct would be named in each of them.
+pub fn typed_amount(unit: WeightUnit, decimals: u8, value: u64) -> Result<Tare, NoAmount>
     ensures { result ≡ typed_amount unit decimals value }
 {
     if 6 < decimals {
-        return Typed::NotTyped;
+        return Err(NoAmount::NotTyped);
     }
     if most_places(unit) < value {
-        return Typed::TooLarge;
+        return Err(NoAmount::TooLarge);
     }
     let exact = value * nanograms_of(unit).0;
     let rounded = half_up(exact, scale_of(decimals));
     if LARGEST_CAPACITY < rounded {
-        return Typed::TooLarge;
+        Err(NoAmount::TooLarge)
+    } else {
+        Ok(Tare(rounded as u32))
     }
-    Typed::Amount(Tare(rounded as u32))
 }

@@ -14,15 +14,15 @@ mod ranges;
 mod rounding;
 mod units;
 
-pub use amount::{Tare, Typed, typed_amount};
-pub use changes::{NO_THRESHOLD, Threshold, has_moved, threshold_of};
+pub use amount::{NoAmount, Tare, typed_amount};
+pub use changes::{NO_THRESHOLD, Threshold, has_moved};
 pub use limits::{
     is_net_within, is_over, is_tare_within, is_threshold_within, is_under, is_within,
 };
-pub use loads::{Load, NO_LOAD, NO_TARE, from_load, from_tare, gross_of, net_of, tare_of};
+pub use loads::{Load, NO_LOAD, NO_TARE, gross_of, net_of, tare_of};
 pub use places::{fits, is_below_zero, signed_places, size_of_number};
 pub use preset::preset_amount;
-pub use printing::{Printed, fits_below_zero, fits_surely, printed_number};
+pub use printing::{fits_below_zero, fits_surely, printed_number};
 pub use ranges::{fits_coarse, resolution_at, typed_resolution};
 pub use rounding::{DisplaySteps, LastPlaces, Micrograms, Resolution, is_allowed, size_of};
-pub use units::{Nanograms, WeightUnit, nanograms_of, place_of};
+pub use units::{Nanograms, UNITS, WeightUnit, nanograms_of, place_of};

@@ -1,5 +1,5 @@
 // Loads and tares as weights: gross, net, and the tare that a gross gives.
-ghost use Rattle.std.specs.Prelude.{◌≡◌, pos, neg_ℤ, nat_abs, ◌-ℤ◌};
+ghost use Rattle.std.specs.Prelude.{◌≡◌, pos, nat_abs, ◌-ℤ◌};
 ghost use Rattle.std.specs.Int.{w64};
 ghost use Rattle.std.proofs.Common.{SFits};
 
@@ -7,7 +7,7 @@ use crate::amount::Tare;
 use crate::rounding::{Micrograms, size_of};
 
 // A sample's load, in micrograms.
-#[derive(Clone, Copy)]
+#[derive(Clone, Copy, PartialEq, Eq)]
 pub struct Load(pub i32);
 
 // Zero as it is from power-on.
@@ -15,32 +15,24 @@ pub const NO_LOAD: Load = Load(0);
 
 pub const NO_TARE: Tare = Tare(0);
 
-pub fn from_load(load: Load) -> Micrograms
-    ensures { result.0 ≡ load.0 }
-{
-    Micrograms(load.0 as i64)
+impl From<Load> for Micrograms {
+    ghost from_gives = { λ load m. m.0 ≡ load.0 };
+
+    fn from(load: Load) -> Micrograms {
+        Micrograms(i64::from(load.0))
+    }
 }
 
-pub fn from_count(n: u32) -> Micrograms
-    ensures { result.0 ≡ pos n }
-{
-    Micrograms(n as i64)
+impl From<Tare> for Micrograms {
+    ghost from_gives = { λ tare m. m.0 ≡ pos tare.0 };
+
+    fn from(tare: Tare) -> Micrograms {
+        Micrograms(i64::from(tare.0))
+    }
 }
 
-pub fn negative_of(n: u32) -> Micrograms
-    ensures { result.0 ≡ neg_ℤ (pos n) }
-{
-    let m = n as i64;
-    Micrograms(-m)
-}
-
-pub fn from_tare(tare: Tare) -> Micrograms
-    ensures { result.0 ≡ pos tare.0 }
-{
-    from_count(tare.0)
-}
-
-pub fn minus(a: Micrograms, b: Micrograms) -> Micrograms
+// Stays a function, and no `-` on the numbers inside: only micrograms are subtracted, no load or tare (tests/type_confusion.sh).
+fn minus(a: Micrograms, b: Micrograms) -> Micrograms
     requires { SFits w64 (a.0 -ℤ b.0) }
     ensures { result.0 ≡ a.0 -ℤ b.0 }
 {
@@ -51,13 +43,13 @@ pub fn minus(a: Micrograms, b: Micrograms) -> Micrograms
 pub fn gross_of(load: Load, zero: Load) -> Micrograms
     ensures { result.0 ≡ load.0 -ℤ zero.0 }
 {
-    minus(from_load(load), from_load(zero))
+    minus(Micrograms::from(load), Micrograms::from(zero))
 }
 
 pub fn net_of(load: Load, zero: Load, tare: Tare) -> Micrograms
     ensures { result.0 ≡ load.0 -ℤ zero.0 -ℤ pos tare.0 }
 {
-    minus(gross_of(load, zero), from_tare(tare))
+    minus(gross_of(load, zero), Micrograms::from(tare))
 }
 
 // The size of the gross, which two loads of 32 bits keep within 32: the gross itself, where that is not below zero.

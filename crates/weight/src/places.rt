@@ -1,16 +1,15 @@
 // Whether a number fits the characters of a weight.
 ghost use Rattle.std.specs.Prelude.{◌≡◌, true, false, cond, not, ◌-◌, ◌^◌, ltb, nat_abs};
 ghost use Rattle.std.specs.Int.Signed.{non_neg};
-ghost use Rattle.weight.specs.Places.{fits_field, signed_places};
+ghost use Rattle.weight.specs.Places.{characters_in, decimals_fit, fits_field, signed_places};
 
-use crate::integer::{Integer, magnitude};
 use crate::rounding::LastPlaces;
 
 // How far from zero a number is.
 pub fn size_of_number(places: LastPlaces) -> u64
     ensures { result ≡ nat_abs places.0 }
 {
-    magnitude(Integer(places.0))
+    places.0.unsigned_abs()
 }
 
 pub fn is_below_zero(places: LastPlaces) -> bool
@@ -27,70 +26,41 @@ pub fn signed_places(negative: bool, size: u64) -> LastPlaces
     ensures { result.0 ≡ signed_places negative size }
 {
     if TEN_DIGITS <= size {
-        return LastPlaces(0);
+        LastPlaces(0)
+    } else if negative {
+        LastPlaces(-(size as i64))
+    } else {
+        LastPlaces(size as i64)
     }
-    let n = size as i64;
-    if negative {
-        return LastPlaces(-n);
-    }
-    LastPlaces(n)
 }
 
-// What the size of a number stays below in ten characters: they hold ten digits, and one less for a point and for a minus.
-fn size_limit(decimals: u8, negative: bool) -> u64
-    ensures { result ≡ 10 ^ (10 - cond (ltb decimals 1) 0 1 - cond negative 1 0) }
+// What the size of a number stays below: its range's characters hold a digit each, but for a point and for a minus.
+fn size_limit(decimals: u8, negative: bool, coarse: bool) -> u64
+    ensures { result ≡ 10 ^ (characters_in coarse - cond (ltb decimals 1) 0 1 - cond negative 1 0) }
 {
-    if decimals < 1 {
-        if negative {
-            return 1_000_000_000;
-        }
-        return 10_000_000_000;
+    match u8::from(coarse) + u8::from(0 < decimals) + u8::from(negative) {
+        0 => 10_000_000_000,
+        1 => 1_000_000_000,
+        2 => 100_000_000,
+        _ => 10_000_000,
     }
-    if negative {
-        return 100_000_000;
-    }
-    1_000_000_000
 }
 
-// Whether a number has 0 to 6 decimals and is written in ten characters.
-fn fits_ten(decimals: u8, places: LastPlaces) -> bool
-    ensures { result ≡ fits_field false decimals places.0 }
+// 0 to 6 decimals, coarse 1 to 5.
+fn decimals_fit(decimals: u8, coarse: bool) -> bool
+    ensures { result ≡ decimals_fit coarse decimals }
 {
-    if 6 < decimals {
-        return false;
+    if coarse {
+        (1 <= decimals) & (decimals <= 5)
+    } else {
+        decimals <= 6
     }
-    size_of_number(places) < size_limit(decimals, is_below_zero(places))
-}
-
-// The same of nine, which have a point.
-fn nine_limit(negative: bool) -> u64
-    ensures { result ≡ 10 ^ (8 - cond negative 1 0) }
-{
-    if negative {
-        return 10_000_000;
-    }
-    100_000_000
-}
-
-// Whether a number has 1 to 5 decimals and is written in nine characters.
-fn fits_nine(decimals: u8, places: LastPlaces) -> bool
-    ensures { result ≡ fits_field true decimals places.0 }
-{
-    if decimals < 1 {
-        return false;
-    }
-    if 5 < decimals {
-        return false;
-    }
-    size_of_number(places) < nine_limit(is_below_zero(places))
 }
 
 // Whether a number is written in the characters of its range.
 pub fn fits(decimals: u8, places: LastPlaces, coarse: bool) -> bool
     ensures { result ≡ fits_field coarse decimals places.0 }
 {
-    if coarse {
-        return fits_nine(decimals, places);
-    }
-    fits_ten(decimals, places)
+    let limit = size_limit(decimals, is_below_zero(places), coarse);
+    decimals_fit(decimals, coarse) & (size_of_number(places) < limit)
 }

@@ -1,16 +1,16 @@
 // A net weight in micrograms becomes display steps, in one rounding, and these the printed number.
-ghost use Rattle.std.specs.Prelude.{◌≡◌, true, ◌&&◌, ◌||◌, eqb, leb, ◌*◌, ◌<◌, ◌≤◌, ◌^◌, pos, nat_abs, ◌*ℤ◌};
+ghost use Rattle.std.specs.Prelude.{◌≡◌, true, false, MatchOption, ◌&&◌, ◌||◌, eqb, leb, ◌*◌, ◌<◌, ◌≤◌, ◌^◌, pos, nat_abs, ◌*ℤ◌};
 ghost use Rattle.weight.specs.Units.{nanograms_of};
 ghost use Rattle.std.specs.Int.{w64};
 ghost use Rattle.std.proofs.Common.{SFits};
 ghost use Rattle.weight.specs.Rounding.{allowed_resolution, round_away, steps_of, in_range};
 
-use crate::integer::{Integer, divide, is_negative, magnitude, of_natural, plus, times};
+use crate::integer::divide;
 use crate::units::{WeightUnit, nanograms_of};
 
 // How weights are shown: the unit, the decimals and the step in the last place (document 01's d and k), and whether that is the coarse
 // range's (document 02, No. 7).
-#[derive(Clone, Copy)]
+#[derive(Clone, Copy, PartialEq, Eq)]
 pub struct Resolution {
     pub unit: WeightUnit,
     pub decimals: u8,
@@ -18,45 +18,45 @@ pub struct Resolution {
     pub coarse: bool,
 }
 
-#[derive(Clone, Copy)]
+#[derive(Clone, Copy, PartialEq, Eq)]
 pub struct Micrograms(pub i64);
 
-#[derive(Clone, Copy)]
+#[derive(Clone, Copy, PartialEq, Eq)]
 pub struct DisplaySteps(pub i64);
 
 // A number in units of its last place: 14.2560 with four decimals is 142560.
-#[derive(Clone, Copy)]
+#[derive(Clone, Copy, PartialEq, Eq)]
 pub struct LastPlaces(pub i64);
 
-// x / by to the nearest whole number, a tie away from zero: one signed division with its remainder.
-fn nearest(x: Integer, by: u64) -> Integer
+// x / by to the nearest whole number, a tie away from zero: one signed division with its remainder. That `by` is not 0 stays a clause, here and
+// where it divides: a type for it would be made for one call and taken apart in the next.
+fn nearest(x: i64, by: u64) -> i64
     requires by_nonzero { 0 < by }
     requires by_bound { by < 2 ^ 62 }
-    requires x_bound { nat_abs x.0 < 2 ^ 63 }
-    ensures { result.0 ≡ round_away x.0 by }
+    requires x_bound { nat_abs x < 2 ^ 63 }
+    ensures { result ≡ round_away x by }
 {
     let parts = divide(x, by);
-    let quotient = parts.quotient;
-    let rest = magnitude(parts.rest);
+    let rest = parts.rest.unsigned_abs();
     if by <= rest + rest {
-        if is_negative(x) {
-            return plus(quotient, Integer(-1));
+        if x < 0 {
+            parts.quotient - 1
+        } else {
+            parts.quotient + 1
         }
-        return plus(quotient, Integer(1));
+    } else {
+        parts.quotient
     }
-    quotient
 }
 
 // The nanograms of a display step, times 10^d: what a rounding divides by.
 pub fn divisor_of(resolution: Resolution) -> u64
     ensures { result ≡ resolution.step * nanograms_of resolution.unit }
 {
-    let unit = resolution.unit;
-    resolution.step as u64 * nanograms_of(unit).0
+    resolution.step as u64 * nanograms_of(resolution.unit).0
 }
 
-// The nanograms of a microgram, times 10^d: what a rounding multiplies by. A match, and no table: a constant array is built anew at
-// every use.
+// The nanograms of a microgram, times 10^d: what a rounding multiplies by.
 pub fn scale_of(decimals: u8) -> u64
     requires { decimals ≤ 6 }
     ensures { result ≡ 1000 * 10 ^ decimals }
@@ -91,38 +91,71 @@ pub fn is_allowed(resolution: Resolution) -> bool
     ensures { result ≡ allowed_resolution resolution }
 {
     if 6 < resolution.decimals {
-        return false;
+        false
+    } else {
+        is_step_allowed(
+            resolution.step,
+            scale_of(resolution.decimals),
+            divisor_of(resolution),
+        )
     }
-    is_step_allowed(
-        resolution.step,
-        scale_of(resolution.decimals),
-        divisor_of(resolution),
-    )
 }
 
-// How far from zero an amount is.
+// How far from zero an amount is. Stays beside `size_of_number`: each is one call, and the types keep apart what they measure.
 pub fn size_of(amount: Micrograms) -> u64
     ensures { result ≡ nat_abs amount.0 }
 {
-    magnitude(Integer(amount.0))
+    amount.0.unsigned_abs()
+}
+
+// A resolution that is allowed.
+#[derive(Clone, Copy)]
+pub struct Allowed {
+    pub resolution: Resolution,
+    ghost holds: { allowed_resolution resolution ≡ true },
+}
+
+// A net that a device can meet.
+#[derive(Clone, Copy)]
+pub struct Net {
+    pub weight: Micrograms,
+    ghost near: { in_range weight.0 ≡ true },
+}
+
+// More micrograms than a load with a zero and a tare in their ranges can give.
+const NET_LIMIT: u64 = 5_000_000_000;
+
+pub fn if_allowed(resolution: Resolution) -> Option<Allowed>
+    ensures { MatchOption result (allowed_resolution resolution ≡ false) (λ a. a.resolution ≡ resolution) }
+{
+    if is_allowed(resolution) {
+        Some(Allowed { resolution })
+    } else {
+        None
+    }
+}
+
+pub fn if_in_range(weight: Micrograms) -> Option<Net>
+    ensures { MatchOption result (in_range weight.0 ≡ false) (λ n. n.weight ≡ weight) }
+{
+    if size_of(weight) <= NET_LIMIT {
+        Some(Net { weight })
+    } else {
+        None
+    }
 }
 
 // One rounding from the exact net.
-pub fn steps_of(resolution: Resolution, net: Micrograms) -> DisplaySteps
-    requires resolution_value { allowed_resolution resolution ≡ true }
-    requires net_value { in_range net.0 ≡ true }
-    ensures { result.0 ≡ steps_of resolution net.0 }
+pub fn steps_of(allowed: Allowed, net: Net) -> DisplaySteps
+    ensures { result.0 ≡ steps_of allowed.resolution net.weight.0 }
 {
-    let scale = of_natural(scale_of(resolution.decimals));
-    let steps = nearest(times(Integer(net.0), scale), divisor_of(resolution));
-    DisplaySteps(steps.0)
+    let scale = scale_of(allowed.resolution.decimals) as i64;
+    DisplaySteps(nearest(net.weight.0 * scale, divisor_of(allowed.resolution)))
 }
 
 pub fn places_of(resolution: Resolution, steps: DisplaySteps) -> LastPlaces
     requires { SFits w64 (steps.0 *ℤ pos resolution.step) }
     ensures { result.0 ≡ steps.0 *ℤ pos resolution.step }
 {
-    let step = of_natural(resolution.step as u64);
-    let places = times(Integer(steps.0), step);
-    LastPlaces(places.0)
+    LastPlaces(steps.0 * resolution.step as i64)
 }

@@ -3,7 +3,7 @@ ghost use Rattle.std.specs.Prelude.{◌≡◌};
 ghost use Rattle.weight.specs.Units.{nanograms_of, unit_place};
 
 // Gram, milligram, carat, ounce, troy ounce, grain, pennyweight, kilogram, pound.
-#[derive(Clone, Copy)]
+#[derive(Clone, Copy, PartialEq, Eq)]
 pub enum WeightUnit {
     G,
     Mg,
@@ -16,8 +16,20 @@ pub enum WeightUnit {
     Lb,
 }
 
+pub const UNITS: [WeightUnit; 9] = [
+    WeightUnit::G,
+    WeightUnit::Mg,
+    WeightUnit::Ct,
+    WeightUnit::Oz,
+    WeightUnit::Ozt,
+    WeightUnit::Gn,
+    WeightUnit::Dwt,
+    WeightUnit::Kg,
+    WeightUnit::Lb,
+];
+
 // The nanograms of one unit.
-#[derive(Clone, Copy)]
+#[derive(Clone, Copy, PartialEq, Eq)]
 pub struct Nanograms(pub u64);
 
 pub fn nanograms_of(unit: WeightUnit) -> Nanograms
@@ -41,15 +53,5 @@ pub fn nanograms_of(unit: WeightUnit) -> Nanograms
 pub fn place_of(unit: WeightUnit) -> u8
     ensures { result ≡ unit_place unit }
 {
-    match unit {
-        WeightUnit::G => 0,
-        WeightUnit::Mg => 1,
-        WeightUnit::Ct => 2,
-        WeightUnit::Oz => 3,
-        WeightUnit::Ozt => 4,
-        WeightUnit::Gn => 5,
-        WeightUnit::Dwt => 6,
-        WeightUnit::Kg => 7,
-        WeightUnit::Lb => 8,
-    }
+    unit as u8
 }

@@ -8,7 +8,6 @@ mod preset;
 mod ranges;
 mod show;
 mod tares;
-mod texts;
 mod ties;
 mod typed;
 mod units;

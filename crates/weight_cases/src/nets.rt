@@ -1,6 +1,7 @@
 // Net weights printed: a size in micrograms, and the fields of that net weight and of its opposite.
 use crate::show;
 use std::io;
+use weight::WeightUnit::{Ct, Dwt, G, Gn, Kg, Lb, Mg, Oz, Ozt};
 use weight::{Micrograms, Resolution, WeightUnit};
 
 // Of the fine range.
@@ -14,12 +15,9 @@ pub fn fine(unit: WeightUnit, decimals: u8, step: u8) -> Resolution {
 }
 
 pub fn printed(rt: &impl Print, r: Resolution, net: i64) -> io::Result<()> {
-    let p = weight::printed_number(r, Micrograms(net));
-    let places = p.places;
-    if p.fits {
-        show::field(rt, text::field_of(r.decimals, places, r.coarse))
-    } else {
-        show::text(rt, b" no")
+    match weight::printed_number(r, Micrograms(net)) {
+        Some(places) => show::field(rt, text::field_of(r.decimals, places, r.coarse)),
+        None => show::text(rt, b" no"),
     }
 }
 
@@ -37,51 +35,35 @@ fn net(rt: &impl Print, r: Resolution, size: u64) -> io::Result<()> {
 }
 
 pub fn each(rt: &impl Print, r: Resolution, sizes: &[u64]) -> io::Result<()> {
-    let mut i = 0;
-    while i < sizes.len() {
-        net(rt, r, sizes[i])?;
-        i += 1;
+    for size in sizes {
+        net(rt, r, *size)?;
     }
     Ok(())
 }
 
-fn nets(
-    rt: &impl Print,
-    unit: WeightUnit,
-    decimals: u8,
-    step: u8,
-    sizes: &[u64],
-) -> io::Result<()> {
-    each(rt, fine(unit, decimals, step), sizes)
-}
-
 fn grams(rt: &impl Print, decimals: u8, sizes: &[u64]) -> io::Result<()> {
-    nets(rt, WeightUnit::G, decimals, 1, sizes)
+    each(rt, fine(G, decimals, 1), sizes)
 }
 
 // Document 01, "Bench cases": profile A is g, d 4, k 1.
 pub fn bench_cases(rt: &impl Print) -> io::Result<()> {
     grams(rt, 4, &[14_256_049, 14_256_050, 49, 50])?;
-    nets(rt, WeightUnit::G, 4, 5, &[249, 250])?;
-    nets(rt, WeightUnit::Ct, 3, 1, &[99, 100])?;
-    nets(rt, WeightUnit::Oz, 5, 1, &[28_349_523])?;
+    each(rt, fine(G, 4, 5), &[249, 250])?;
+    each(rt, fine(Ct, 3, 1), &[99, 100])?;
+    each(rt, fine(Oz, 5, 1), &[28_349_523])?;
     grams(rt, 4, &[220_000_000, 220_000_001, 1_000_000, 1_000_001])?;
     grams(rt, 4, &[10_000_050, 100_000_000])?;
-    nets(rt, WeightUnit::Mg, 3, 1, &[99_999_999, 100_000_000])?;
-    nets(rt, WeightUnit::Gn, 5, 1, &[64_798_910])?;
-    nets(rt, WeightUnit::Gn, 5, 2, &[64_798_910])
+    each(rt, fine(Mg, 3, 1), &[99_999_999, 100_000_000])?;
+    each(rt, fine(Gn, 5, 1), &[64_798_910])?;
+    each(rt, fine(Gn, 5, 2), &[64_798_910])
 }
 
 // Document 02, No. 5: one load in the eight other units, d 2, k 1.
 pub fn request_cases(rt: &impl Print) -> io::Result<()> {
-    nets(rt, WeightUnit::Ct, 2, 1, &[14_256_050])?;
-    nets(rt, WeightUnit::Kg, 2, 1, &[14_256_050])?;
-    nets(rt, WeightUnit::Lb, 2, 1, &[14_256_050])?;
-    nets(rt, WeightUnit::Oz, 2, 1, &[14_256_050])?;
-    nets(rt, WeightUnit::Ozt, 2, 1, &[14_256_050])?;
-    nets(rt, WeightUnit::Gn, 2, 1, &[14_256_050])?;
-    nets(rt, WeightUnit::Dwt, 2, 1, &[14_256_050])?;
-    nets(rt, WeightUnit::Mg, 2, 1, &[14_256_050])
+    for unit in [Ct, Kg, Lb, Oz, Ozt, Gn, Dwt, Mg] {
+        each(rt, fine(unit, 2, 1), &[14_256_050])?;
+    }
+    Ok(())
 }
 
 // The weights that sources 003 and 000 print in commands and answers, each once.
@@ -108,74 +90,84 @@ pub fn range_cases(rt: &impl Print) -> io::Result<()> {
         &[9_223_372_036_854_775_807, 9_223_372_036_854_775_808],
     )?;
     grams(rt, 6, &[0, 1])?;
-    nets(rt, WeightUnit::Mg, 0, 1, &[5_000_000_000, 5_000_000_001])?;
-    nets(rt, WeightUnit::Ct, 4, 1, &[5_000_000_000, 5_000_000_001])?;
-    nets(rt, WeightUnit::Oz, 6, 1, &[5_000_000_000, 5_000_000_001])?;
-    nets(rt, WeightUnit::Ozt, 0, 5, &[5_000_000_000, 5_000_000_001])?;
-    nets(rt, WeightUnit::Gn, 4, 1, &[5_000_000_000, 5_000_000_001])?;
-    nets(rt, WeightUnit::Dwt, 4, 2, &[5_000_000_000, 5_000_000_001])?;
-    nets(rt, WeightUnit::Kg, 6, 1, &[5_000_000_000, 5_000_000_001])?;
-    nets(rt, WeightUnit::Lb, 6, 5, &[5_000_000_000, 5_000_000_001])
+    for (unit, decimals, step) in [
+        (Mg, 0, 1),
+        (Ct, 4, 1),
+        (Oz, 6, 1),
+        (Ozt, 0, 5),
+        (Gn, 4, 1),
+        (Dwt, 4, 2),
+        (Kg, 6, 1),
+        (Lb, 6, 5),
+    ] {
+        each(
+            rt,
+            fine(unit, decimals, step),
+            &[5_000_000_000, 5_000_000_001],
+        )?;
+    }
+    Ok(())
 }
 
 // The last size whose field fits, above zero or below, and the first that does not.
 pub fn last_and_next(rt: &impl Print, r: Resolution, last: u64) -> io::Result<()> {
     net(rt, r, last)?;
-    net(rt, r, show::one_more(last))
-}
-
-fn edge(rt: &impl Print, unit: WeightUnit, decimals: u8, step: u8, last: u64) -> io::Result<()> {
-    last_and_next(rt, fine(unit, decimals, step), last)
+    net(rt, r, last.saturating_add(1))
 }
 
 // No net is too wide for kg and lb.
 pub fn width_cases(rt: &impl Print) -> io::Result<()> {
-    edge(rt, WeightUnit::G, 6, 1, 999_999_999)?;
-    edge(rt, WeightUnit::G, 6, 1, 99_999_999)?;
-    edge(rt, WeightUnit::Mg, 3, 1, 999_999_999)?;
-    edge(rt, WeightUnit::Mg, 3, 1, 99_999_999)?;
-    edge(rt, WeightUnit::Mg, 2, 1, 999_999_994)?;
-    edge(rt, WeightUnit::Ct, 6, 5, 199_999_999)?;
-    edge(rt, WeightUnit::Ct, 6, 5, 19_999_999)?;
-    edge(rt, WeightUnit::Ct, 5, 1, 1_999_999_998)?;
-    edge(rt, WeightUnit::Ct, 5, 1, 199_999_998)?;
-    edge(rt, WeightUnit::Ct, 4, 2, 1_999_999_979)?;
-    edge(rt, WeightUnit::Oz, 6, 1, 2_834_952_298)?;
-    edge(rt, WeightUnit::Ozt, 6, 1, 3_110_347_664)?;
-    edge(rt, WeightUnit::Gn, 5, 2, 647_989_099)?;
-    edge(rt, WeightUnit::Gn, 5, 2, 64_798_909)?;
-    edge(rt, WeightUnit::Gn, 4, 1, 647_989_096)?;
-    edge(rt, WeightUnit::Dwt, 6, 1, 1_555_173_839)?;
-    edge(rt, WeightUnit::Dwt, 6, 1, 155_517_383)?;
-    edge(rt, WeightUnit::Dwt, 5, 5, 1_555_173_801)
+    for (unit, decimals, step, last) in [
+        (G, 6, 1, 999_999_999),
+        (G, 6, 1, 99_999_999),
+        (Mg, 3, 1, 999_999_999),
+        (Mg, 3, 1, 99_999_999),
+        (Mg, 2, 1, 999_999_994),
+        (Ct, 6, 5, 199_999_999),
+        (Ct, 6, 5, 19_999_999),
+        (Ct, 5, 1, 1_999_999_998),
+        (Ct, 5, 1, 199_999_998),
+        (Ct, 4, 2, 1_999_999_979),
+        (Oz, 6, 1, 2_834_952_298),
+        (Ozt, 6, 1, 3_110_347_664),
+        (Gn, 5, 2, 647_989_099),
+        (Gn, 5, 2, 64_798_909),
+        (Gn, 4, 1, 647_989_096),
+        (Dwt, 6, 1, 1_555_173_839),
+        (Dwt, 6, 1, 155_517_383),
+        (Dwt, 5, 5, 1_555_173_801),
+    ] {
+        last_and_next(rt, fine(unit, decimals, step), last)?;
+    }
+    Ok(())
 }
 
-// A net weight of a gram.
-fn gram(rt: &impl Print, unit: WeightUnit, decimals: u8, step: u8) -> io::Result<()> {
-    nets(rt, unit, decimals, step, &[1_000_000])
-}
-
-// Decimals and steps just allowed and just not; the ties go through all that a profile can ask for.
+// A gram, in decimals and steps just allowed and just not; the ties go through all that a profile can ask for.
 pub fn resolution_cases(rt: &impl Print) -> io::Result<()> {
-    gram(rt, WeightUnit::G, 6, 1)?;
-    gram(rt, WeightUnit::G, 7, 1)?;
-    gram(rt, WeightUnit::G, 255, 1)?;
-    gram(rt, WeightUnit::G, 4, 0)?;
-    gram(rt, WeightUnit::G, 4, 3)?;
-    gram(rt, WeightUnit::G, 4, 4)?;
-    gram(rt, WeightUnit::G, 4, 6)?;
-    gram(rt, WeightUnit::G, 4, 10)?;
-    gram(rt, WeightUnit::G, 4, 255)?;
-    gram(rt, WeightUnit::Mg, 3, 1)?;
-    gram(rt, WeightUnit::Mg, 4, 5)?;
-    gram(rt, WeightUnit::Ct, 6, 2)?;
-    gram(rt, WeightUnit::Ct, 6, 5)?;
-    gram(rt, WeightUnit::Oz, 7, 5)?;
-    gram(rt, WeightUnit::Ozt, 7, 5)?;
-    gram(rt, WeightUnit::Gn, 5, 1)?;
-    gram(rt, WeightUnit::Gn, 5, 2)?;
-    gram(rt, WeightUnit::Kg, 6, 1)?;
-    gram(rt, WeightUnit::Kg, 7, 1)?;
-    gram(rt, WeightUnit::Lb, 6, 1)?;
-    gram(rt, WeightUnit::Lb, 7, 5)
+    for (unit, decimals, step) in [
+        (G, 6, 1),
+        (G, 7, 1),
+        (G, 255, 1),
+        (G, 4, 0),
+        (G, 4, 3),
+        (G, 4, 4),
+        (G, 4, 6),
+        (G, 4, 10),
+        (G, 4, 255),
+        (Mg, 3, 1),
+        (Mg, 4, 5),
+        (Ct, 6, 2),
+        (Ct, 6, 5),
+        (Oz, 7, 5),
+        (Ozt, 7, 5),
+        (Gn, 5, 1),
+        (Gn, 5, 2),
+        (Kg, 6, 1),
+        (Kg, 7, 1),
+        (Lb, 6, 1),
+        (Lb, 7, 5),
+    ] {
+        each(rt, fine(unit, decimals, step), &[1_000_000])?;
+    }
+    Ok(())
 }

@@ -1,6 +1,5 @@
 // What a line is made of, each part but the first word with a space before it; and numbers of either sign from their size.
 use std::io;
-use text::Field;
 use weight::{LastPlaces, Resolution, WeightUnit};
 
 pub fn text(rt: &impl Print, bytes: &[u8]) -> io::Result<()> {
@@ -19,21 +18,24 @@ pub fn number(rt: &impl Print, n: u64) -> io::Result<()> {
     rt.print(n)
 }
 
+// Three characters.
 pub fn unit(rt: &impl Print, u: WeightUnit) -> io::Result<()> {
-    let t = text::unit_text(u);
-    let cells = t.cells;
+    let name = text::unit_text(u);
     text(rt, b" ")?;
-    text(rt, &cells)
+    text(rt, name)?;
+    for _ in name.len()..3 {
+        text(rt, b" ")?;
+    }
+    Ok(())
 }
 
 // All ten cells, also of a field that does not fit.
-pub fn field(rt: &impl Print, f: Field) -> io::Result<()> {
-    let cells = f.cells;
-    if !f.fits {
+pub fn field(rt: &impl Print, cells: Option<[u8; 10]>) -> io::Result<()> {
+    if cells.is_none() {
         text(rt, b" no")?;
     }
     text(rt, b" [")?;
-    text(rt, &cells)?;
+    text(rt, &cells.unwrap_or([b' '; 10]))?;
     text(rt, b"]")
 }
 
@@ -51,8 +53,7 @@ pub fn range(rt: &impl Print, coarse: bool) -> io::Result<()> {
 }
 
 pub fn resolution(rt: &impl Print, r: Resolution) -> io::Result<()> {
-    let u = r.unit;
-    unit(rt, u)?;
+    unit(rt, r.unit)?;
     number(rt, r.decimals as u64)?;
     number(rt, r.step as u64)?;
     range(rt, r.coarse)?;
@@ -67,33 +68,12 @@ pub fn end(rt: &impl Print) -> io::Result<()> {
     text(rt, b"\n")
 }
 
-pub fn one_more(n: u64) -> u64 {
-    if n < 18_446_744_073_709_551_615 {
-        n + 1
-    } else {
-        n
-    }
-}
-
-pub fn one_less(n: u64) -> u64 {
-    if n > 0 { n - 1 } else { n }
-}
-
 // The number of this size; the largest one where there is none.
 pub fn above(size: u64) -> i64 {
-    if size > 9_223_372_036_854_775_807 {
-        return 9_223_372_036_854_775_807;
-    }
-    size as i64
+    i64::try_from(size).unwrap_or(i64::MAX)
 }
 
 // The number of this size below zero; the least one where there is none.
 pub fn below(size: u64) -> i64 {
-    if size < 1 {
-        return 0;
-    }
-    if size > 9_223_372_036_854_775_808 {
-        return -9_223_372_036_854_775_808;
-    }
-    !((size - 1) as i64)
+    0_i64.saturating_sub_unsigned(size)
 }

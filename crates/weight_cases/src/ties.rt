@@ -4,7 +4,7 @@ ghost use Rattle.std.specs.Prelude.{◌≤◌};
 
 use crate::{nets, show};
 use std::io;
-use weight::{Resolution, WeightUnit};
+use weight::{Resolution, UNITS, WeightUnit};
 
 // k x unit.
 fn step_nanograms(unit: WeightUnit, step: u8) -> u64
@@ -25,9 +25,9 @@ fn around(rt: &impl Print, r: Resolution, size: u64) -> io::Result<()> {
     show::text(rt, b"tie")?;
     show::resolution(rt, r)?;
     show::number(rt, size)?;
-    nets::both_signs(rt, r, show::one_less(size))?;
+    nets::both_signs(rt, r, size.saturating_sub(1))?;
     nets::both_signs(rt, r, size)?;
-    nets::both_signs(rt, r, show::one_more(size))?;
+    nets::both_signs(rt, r, size.saturating_add(1))?;
     show::end(rt)
 }
 
@@ -42,30 +42,21 @@ fn middles(rt: &impl Print, unit: WeightUnit, decimals: u8, step: u8, per: u64) 
     around(rt, r, n * 25 / per)
 }
 
-fn every_decimal(rt: &impl Print, unit: WeightUnit, step: u8) -> io::Result<()> {
-    middles(rt, unit, 0, step, 2_000)?;
-    middles(rt, unit, 1, step, 20_000)?;
-    middles(rt, unit, 2, step, 200_000)?;
-    middles(rt, unit, 3, step, 2_000_000)?;
-    middles(rt, unit, 4, step, 20_000_000)?;
-    middles(rt, unit, 5, step, 200_000_000)?;
-    middles(rt, unit, 6, step, 2_000_000_000)
-}
-
-fn every_step(rt: &impl Print, unit: WeightUnit) -> io::Result<()> {
-    every_decimal(rt, unit, 1)?;
-    every_decimal(rt, unit, 2)?;
-    every_decimal(rt, unit, 5)
-}
-
 pub fn cases(rt: &impl Print) -> io::Result<()> {
-    every_step(rt, WeightUnit::G)?;
-    every_step(rt, WeightUnit::Mg)?;
-    every_step(rt, WeightUnit::Ct)?;
-    every_step(rt, WeightUnit::Oz)?;
-    every_step(rt, WeightUnit::Ozt)?;
-    every_step(rt, WeightUnit::Gn)?;
-    every_step(rt, WeightUnit::Dwt)?;
-    every_step(rt, WeightUnit::Kg)?;
-    every_step(rt, WeightUnit::Lb)
+    for unit in UNITS {
+        for step in [1, 2, 5] {
+            for (decimals, per) in [
+                (0, 2_000),
+                (1, 20_000),
+                (2, 200_000),
+                (3, 2_000_000),
+                (4, 20_000_000),
+                (5, 200_000_000),
+                (6, 2_000_000_000),
+            ] {
+                middles(rt, unit, decimals, step, per)?;
+            }
+        }
+    }
+    Ok(())
 }

@@ -1,25 +1,16 @@
-use mathlib.Core.Path.{◌≡◌, refl}
-use Prim.Native.Nat.{ℕ, ◌≤◌, ◌<◌, ◌-◌}
-use native.Mathlib.Omega.{arith}
-use borrow.Author.Rules.{rules}
-use borrow.Author.Count.{below_none, below_more}
+use Rattle.std.proofs.Common.{◌≡◌, rules, tests}
+use Rattle.std.proofs.lemmas.Iterator.{YieldsList-from_slice, first_from_find}
 use Rattle.answer.specs.NameTable.{word_number}
-use Rattle.answer.proofs.NameTable.{codes, code_in, found_row, no_row_found}
+use Rattle.answer.specs.declared.name_table.Name.{Name}
+use Rattle.answer.proofs.NameTable.{codes, found_by}
 use Rattle.answer.proofs.name_table.find_command.Goals as goal
 
 -- the code has the table
-pub loop-i-init : goal.loop-i-init
-unfolding word_number
-loop-i-init c = (search rules, refl, below_none _)
-
-pub returns-then-key-name : goal.returns-then-key-name
-returns-then-key-name c =
-    found_row c.args.word.now c.key_of-key.result _ c.key_of-key.ensures c.loop-i.invariant.1
-    (λ k. (c.shared_slice_known-1.given k).fits)
-    c.loop-i.i
-    (search rules)
-    c.if-key-name.true
-
 pub returns : goal.returns
+unfolding word_number
 returns c =
-    no_row_found c.args.word.now c.key_of-key.result _ c.key_of-key.ensures c.loop-i.invariant.1 (λ j h. c.loop-i.invariant.2 j (omega arith))
+    let key = c.key_of-key.result in
+    let Yes : Name → Type 0 = λ n. n.0 ≡ key in
+    let No : Name → Type 0 = λ n. n.0 ≡ key → ⊥ in
+    let first = first_from_find _ _ _ Yes No c.find.ensures.ran (YieldsList-from_slice codes c.iter.ensures.rest) (λ x q k. search (rules, tests)) (λ x q k. search (rules, tests)) in
+    found_by c.args.word.now key c.key_of-key.ensures (λ k. search rules) c.find.result c.map_or.result first c.map_or.ensures (λ x k. search rules)

@@ -1,4 +1,3 @@
-use borrow.Author.Rules.{rules}
 use Rattle.commands.proofs.LineVerdicts.{shows_short_lem}
 use Rattle.commands.proofs.perform.line_reaction.Goals as goal
 

@@ -1,22 +1,29 @@
+use mathlib.Core.Path.{◌≡◌}
+use mathlib.Core.Bool.{false, and-false}
+use mathlib.Core.List.{List}
+use mathlib.Core.Logic.{◌⊎◌, inl, inr}
+use Prim.Native.Nat.{ℕ, ◌<◌}
 use native.Mathlib.Omega.{arith}
-use Rattle.device.proofs.BufferRefusals.{bytes_profile, bytes_state, bytes_unequal, bytes_over, bytes_taken}
+use borrow.Author.Rules.{rules}
+use borrow.Author.Tests.{ne_eqb, lt-leb}
+use lib.Dec.{eqb}
+use lib.ListN.{length}
+use Rattle.device.specs.Buffers.{buffer_limit, lengths_allowed}
+use Rattle.device.proofs.BufferRefusals.{bytes_refused, bytes_lengths, bytes_taken}
 use Rattle.device.proofs.bytes.take_bytes.Goals as goal
 
-pub returns-then-not-is_profile_allowed : goal.returns-then-not-is_profile_allowed
-returns-then-not-is_profile_allowed c = bytes_profile _ _ _ _ _ c.is_profile_allowed.ensures c.if-not-is_profile_allowed.true-raw c.refused_bytes.ensures
+-- as many marks as bytes are needed, and not too many
+lengths_by : (bytes marks : List ℕ) → (length bytes ≡ length marks → ⊥) ⊎ ((length bytes ≡ length marks) × (buffer_limit < length bytes))
+    → lengths_allowed bytes marks ≡ false
+lengths_by bytes marks (inl e) = rw (ne_eqb (length bytes) (length marks) e)
+lengths_by bytes marks (inr e) = rw (lt-leb (length bytes) buffer_limit e.1, and-false (eqb (length bytes) (length marks)))
 
-pub returns-then-not-is_state_allowed : goal.returns-then-not-is_state_allowed
-returns-then-not-is_state_allowed c =
-    bytes_state _ _ _ _ _ c.is_profile_allowed.ensures c.if-not-is_profile_allowed.false-raw c.is_state_allowed.ensures c.if-not-is_state_allowed.true-raw c.refused_bytes-then-not-is_state_allowed.ensures
+pub returns-in-Err : goal.returns-in-Err
+returns-in-Err c = search (rules, bytes_refused)
 
 pub returns-then-bytes-marks : goal.returns-then-bytes-marks
 returns-then-bytes-marks c =
-    bytes_unequal _ _ _ _ _ c.is_profile_allowed.ensures c.if-not-is_profile_allowed.false-raw c.is_state_allowed.ensures c.if-not-is_state_allowed.false-raw c.if-bytes-marks.true c.refused_bytes-then-bytes-marks.ensures
-
-pub returns-then-bytes-gt-BUFFER_LIMIT : goal.returns-then-bytes-gt-BUFFER_LIMIT
-returns-then-bytes-gt-BUFFER_LIMIT c =
-    bytes_over _ _ _ _ _ c.is_profile_allowed.ensures c.if-not-is_profile_allowed.false-raw c.is_state_allowed.ensures c.if-not-is_state_allowed.false-raw (omega (arith, c.if-bytes-gt-BUFFER_LIMIT.true)) c.refused_bytes-then-bytes-gt-BUFFER_LIMIT.ensures
+    bytes_lengths _ _ _ _ _ c.admitted.ensures c.in_default.is (lengths_by _ _ c.then-bytes-marks.either) c.refused_bytes-then-bytes-marks.ensures
 
 pub returns : goal.returns
-returns c =
-    bytes_taken _ _ _ _ _ c.is_profile_allowed.ensures c.if-not-is_profile_allowed.false-raw c.is_state_allowed.ensures c.if-not-is_state_allowed.false-raw c.if-bytes-marks.false (omega (arith, c.if-bytes-gt-BUFFER_LIMIT.false)) c.take_lines.ensures
+returns c = bytes_taken _ _ _ _ _ c.admitted.ensures c.in_default.is c.if-bytes-marks.false (omega arith) c.take_lines.ensures

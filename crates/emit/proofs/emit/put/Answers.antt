@@ -1,12 +1,17 @@
-use native.Mathlib.Omega.{arith}
-use lib.ListN.{length-set}
-use Rattle.emit.proofs.Laying.{sets_more}
+use borrow.Author.Rules.{rules}
+use Rattle.emit.proofs.Laying.{piece_room, piece_more}
 use Rattle.emit.proofs.emit.put.Goals as goal
 
-pub loop-i-preserved : goal.loop-i-preserved
-loop-i-preserved c =
-    let start = c.args in (
-      omega arith,
-      simp length-set (omega arith),
-      rw c.loop-i.invariant.2 (sets_more start.out.now start.at start.piece.now c.loop-i.i (omega arith)),
-    )
+pub overflow_add-end : goal.overflow_add-end
+overflow_add-end c =
+    let room = piece_room c.args.out.now c.args.at c.loop-piece.piece-index c.args.pieces.now c.loop-piece-test.true c.loop-piece.invariant.1 c.requires c.loop-piece.invariant.0 in
+    search rules
+
+pub slice_bounds-copy_from_slice-end : goal.slice_bounds-copy_from_slice-end
+slice_bounds-copy_from_slice-end c =
+    let room = piece_room c.args.out.now c.args.at c.loop-piece.piece-index c.args.pieces.now c.loop-piece-test.true c.loop-piece.invariant.1 c.requires c.loop-piece.invariant.0 in
+    search rules
+
+pub loop-piece-preserved : goal.loop-piece-preserved
+loop-piece-preserved c =
+    piece_more c.args.out.now c.args.at c.loop-piece.piece-index c.args.pieces.now c.loop-piece-test.true c.loop-piece.invariant.1 c.requires c.loop-piece.invariant.0 c.copy_from_slice.ensures.after

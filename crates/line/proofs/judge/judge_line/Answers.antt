@@ -1,5 +1,5 @@
 use borrow.Author.Rules.{rules}
-use Rattle.line.proofs.Rows.{in_cells, cells_counted, judged}
+use Rattle.line.proofs.Rows.{judged}
 use Rattle.line.proofs.judge.judge_line.Goals as goal
 
 pub returns : goal.returns

@@ -1,16 +1,10 @@
 use borrow.Author.Rules.{rules}
-use Rattle.line.proofs.Rows.{name_cells, row_1, row_2, row_3, row_4, row_5, rows_6_to_8, space_known}
+use Rattle.line.proofs.Rows.{row_1, row_2, row_3, row_4, row_5, rows_6_to_8, space_known}
 use Rattle.line.proofs.Scanning.{place_limit}
 use Rattle.line.proofs.judge.judge_text.Goals as goal
 
-pub slice_bounds-has_control-count : goal.slice_bounds-has_control-count
-slice_bounds-has_control-count c = search (rules, place_limit)
-
-pub slice_bounds-has_control-start : goal.slice_bounds-has_control-start
-slice_bounds-has_control-start c = search (rules, place_limit)
-
-pub slice_bounds-find_command-end : goal.slice_bounds-find_command-end
-slice_bounds-find_command-end c = search (rules, name_cells)
+pub split_at-requires : goal.split_at-requires
+split_at-requires c = search (rules, place_limit)
 
 pub returns-then-faulty : goal.returns-then-faulty
 returns-then-faulty c = search (rules, row_1)
@@ -30,5 +24,5 @@ returns-then-situation c = search (rules, row_5)
 pub last_rows-requires : goal.last_rows-requires
 last_rows-requires c = search (rules, space_known)
 
-pub returns : goal.returns
-returns c = search (rules, rows_6_to_8)
+pub returns-else-situation : goal.returns-else-situation
+returns-else-situation c = search (rules, rows_6_to_8)

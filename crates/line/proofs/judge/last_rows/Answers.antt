@@ -1,33 +1,28 @@
-use borrow.Author.Rules.{rules}
-use Rattle.line.proofs.Rows.{show_parameter, show_nothing, preset_parameter, preset_asked, change_parameter, change_asked, select_parameter, select_asked, no_sample, runs}
+use Rattle.std.proofs.Common.{rules}
+use Rattle.line.specs.Parts.{show_rule, preset_rule, change_rule, select_rule}
+use Rattle.line.proofs.Rows.{by_parameter, show_row, preset_row, change_row, select_row, no_sample, runs}
 use Rattle.line.proofs.judge.last_rows.Goals as goal
 
-pub returns-then-end-text : goal.returns-then-end-text
-returns-then-end-text c = search (rules, show_parameter)
+pub returns-in-12 : goal.returns-in-12
+returns-in-12 c =
+    by_parameter c.args.situation _ c.in-12.is c.requires _ c.get-parameter.ensures.lookup show_rule _ c.map_or.ensures (λ p told. told) (show_row _ _)
 
-pub returns-then-command-eq-D : goal.returns-then-command-eq-D
-returns-then-command-eq-D c = search (rules, show_nothing)
+pub returns-in-16 : goal.returns-in-16
+returns-in-16 c =
+    let rule = preset_rule c.args.situation in
+    by_parameter c.args.situation _ c.in-16.is c.requires _ c.get-parameter.ensures.lookup rule _ c.map_or-in-16.ensures (λ p told. search rules) (preset_row _ _)
 
-pub returns-then-end-text-2 : goal.returns-then-end-text-2
-returns-then-end-text-2 c = search (rules, preset_parameter)
+pub returns-in-14 : goal.returns-in-14
+returns-in-14 c =
+    let rule = change_rule c.args.situation in
+    by_parameter c.args.situation _ c.in-14.is c.requires _ c.get-parameter.ensures.lookup rule _ c.map_or-in-14.ensures (λ p told. search rules) (change_row _ _)
 
-pub returns-then-command-eq-TA : goal.returns-then-command-eq-TA
-returns-then-command-eq-TA c = search (rules, preset_asked)
+pub returns-in-19 : goal.returns-in-19
+returns-in-19 c =
+    by_parameter c.args.situation _ c.in-19.is c.requires _ c.get-parameter.ensures.lookup select_rule _ c.map_or-in-19.ensures (λ p told. told) (select_row _ _)
 
-pub returns-then-end-text-3 : goal.returns-then-end-text-3
-returns-then-end-text-3 c = search (rules, change_parameter)
+pub returns-in_default : goal.returns-in_default
+returns-in_default c = search (rules, no_sample)
 
-pub returns-then-command-eq-SR : goal.returns-then-command-eq-SR
-returns-then-command-eq-SR c = search (rules, change_asked)
-
-pub returns-then-end-text-4 : goal.returns-then-end-text-4
-returns-then-end-text-4 c = search (rules, select_parameter)
-
-pub returns-then-command-eq-M21 : goal.returns-then-command-eq-M21
-returns-then-command-eq-M21 c = search (rules, select_asked)
-
-pub returns-then-lacks_sample : goal.returns-then-lacks_sample
-returns-then-lacks_sample c = search (rules, no_sample)
-
-pub returns : goal.returns
-returns c = search (rules, runs)
+pub returns-in_default-2 : goal.returns-in_default-2
+returns-in_default-2 c = search (rules, runs)

@@ -1,7 +1,5 @@
-use Prim.Native.Nat.{◌-◌}
-use borrow.Author.Rules.{rules}
-use Rattle.script.proofs.MarkedText.{JudgedSoFar, all_judged, none_judged, one_judged}
+use Rattle.std.proofs.Common.{add-one, rules}
 use Rattle.script.proofs.marked.are_marked.Goals as goal
 
-pub loop-i-preserved : goal.loop-i-preserved
-loop-i-preserved c = search (rules, one_judged)
+pub loop-preserved : goal.loop-preserved
+loop-preserved c = simp add-one (search rules)

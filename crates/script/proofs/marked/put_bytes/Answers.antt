@@ -1,10 +1,6 @@
-use Prim.Native.Nat.{◌-◌}
-use lib.ListN.{length}
-use Rattle.script.specs.Marked.{byte_at}
-use Rattle.script.specs.Words.{after_word}
-use borrow.Author.Rules.{rules}
-use Rattle.script.proofs.MarkedText.{PutSoFar, all_put, byte_put, none_put}
+use Rattle.std.proofs.Common.{rules}
+use Rattle.script.specs.Marked.{byte_of}
 use Rattle.script.proofs.marked.put_bytes.Goals as goal
 
-pub loop-i-preserved : goal.loop-i-preserved
-loop-i-preserved c = search (rules, byte_put)
+pub returns : goal.returns
+returns c = c.put_cells.ensures (λ w i. byte_of w) (λ w i r k. search rules)

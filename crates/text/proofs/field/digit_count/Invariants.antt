@@ -1,8 +1,5 @@
 use Prim.Native.Nat.{◌+◌, ◌-◌, ◌≤◌}
-use native.Mathlib.Omega.{arith}
-use borrow.Author.Rules.{rules}
 use Rattle.text.specs.Field.{digit_count}
-use Rattle.text.proofs.HighestFirst.{count_least, count_more, count_done}
 use Rattle.text.proofs.field.digit_count.Given as goal
 
 abbrev pub invariant-loop-count : goal.invariant-loop-count

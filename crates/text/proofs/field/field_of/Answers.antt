@@ -1,4 +1,4 @@
-use mathlib.Core.Path.{◌≡◌, refl, ◌∙◌, sym}
+use mathlib.Core.Path.{◌≡◌, ◌∙◌, sym}
 use mathlib.Core.Bool.{Bool, true, false}
 use mathlib.Core.List.{List, ◌++◌, append-nil}
 use Prim.Native.Nat.{ℕ, ◌+◌, ◌-◌, ◌≤◌}
@@ -6,7 +6,7 @@ use native.Mathlib.Omega.{arith}
 use lib.IntN.{ℤ}
 use lib.ListN.{length, take, drop, replicate, length-replicate, replicate-append-replicate}
 use lib.Seq.{length-take-le, take_at}
-use borrow.Author.Rules.{rules}
+use Rattle.std.specs.Prelude.{Some}
 use Rattle.weight.specs.Characters.{space}
 use Rattle.weight.specs.Places.{number_text, width_of, characters_in, fits_field}
 use Rattle.text.specs.Field.{field_of, blank, field_if}
@@ -22,20 +22,18 @@ spaces_stay w n a h =
 -- the field of a number that fits
 shown : (c : Bool) (d : ℕ) (n : ℤ) (w : ℕ) (l : List ℕ) → w ≡ characters_in c → fits_field c d n ≡ true
     → l ≡ take (length (take w blank) - width_of d n) (take w blank) ++ number_text d n
-    → record { fits = true; cells = l ++ drop w blank } ≡ field_if (fits_field c d n) c d n
+    → Some (l ++ drop w blank) ≡ field_if (fits_field c d n) c d n
 unfolding field_of
 shown true d n w l s h e = rw (h, e, s, spaces_stay (width_of d n) 9 space (fits_width true d n h))
 shown false d n w l s h e = rw (h, e, s, spaces_stay (width_of d n) 10 space (fits_width false d n h), append-nil)
 
-pub number-requires : goal.number-requires
-number-requires c =
+pub number-requires-clause-places_in_bounds : goal.number-requires-clause-places_in_bounds
+number-requires-clause-places_in_bounds c =
     let given = c.args in
-    let fit = sym c.fits.ensures ∙ c.if-fits.true in
-    rw (length-take-le c.width_in-width.result blank c.width_in-width.ensures.upper_bound)
-    record { out_len_bound = c.width_in-width.ensures.upper_bound; places_in_bounds = rw c.width_in-width.ensures.value (fits_width given.coarse given.decimals given.places.0 fit) }
+    rw (length-take-le c.width_in.result blank c.width_in.ensures.upper_bound, c.width_in.ensures.value)
+    (fits_width given.coarse given.decimals given.places.0 (sym c.fits.ensures ∙ c.if-not-fits.false))
 
-pub returns-then-fits : goal.returns-then-fits
-returns-then-fits c =
+pub returns : goal.returns
+returns c =
     let given = c.args in
-    shown given.coarse given.decimals given.places.0 _ c.number.new.out
-    c.width_in-width.ensures.value (sym c.fits.ensures ∙ c.if-fits.true) c.number.ensures
+    shown given.coarse given.decimals given.places.0 _ c.number.new.out c.width_in.ensures.value (sym c.fits.ensures ∙ c.if-not-fits.false) c.number.ensures

@@ -1,6 +1,5 @@
-use native.Mathlib.Omega.{arith}
 use borrow.Author.Rules.{rules}
-use Rattle.text.proofs.HighestFirst.{Counted, counted_none, counted_turn, counted_small, counted_rest, counted_digit}
+use Rattle.text.proofs.HighestFirst.{counted_turn, counted_digit}
 use Rattle.text.proofs.field.put_digit.Goals as goal
 
 pub loop-rest-preserved : goal.loop-rest-preserved

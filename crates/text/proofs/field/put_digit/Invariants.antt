@@ -1,6 +1,4 @@
-use native.Mathlib.Omega.{arith}
-use borrow.Author.Rules.{rules}
-use Rattle.text.proofs.HighestFirst.{Counted, counted_none, counted_turn, counted_small, counted_rest, counted_digit}
+use Rattle.text.proofs.HighestFirst.{Counted}
 use Rattle.text.proofs.field.put_digit.Given as goal
 
 abbrev pub invariant-loop-rest : goal.invariant-loop-rest

@@ -1,16 +1,14 @@
 use mathlib.Core.Path.{◌≡◌}
-use Prim.Native.Nat.{suc, ◌-◌, ◌≤◌}
-use native.Mathlib.Omega.{arith}
+use Prim.Native.Nat.{suc, ◌-◌}
 use borrow.Author.Rules.{rules}
-use Rattle.text.proofs.HighestFirst.{Written, written_none, written_long, turn_power, turn_digit, turn_written, written_done}
+use Rattle.text.proofs.HighestFirst.{written_none, turn_power, turn_written, written_done}
 use Rattle.text.proofs.field.put_digits.Goals as goal
 
 pub loop-place-init : goal.loop-place-init
 loop-place-init c = (search rules, written_none _ _ _ _ (search rules))
 
-pub put_digit-rest-requires : goal.put_digit-rest-requires
-put_digit-rest-requires c =
-    let next : c.loop-place.place ≡ suc (c.loop-place.place - 1) = search rules in record { at_in_bounds = omega (arith, written_long _ _ _ _ _ _ _ _ c.loop-place.invariant.1 (search rules)); power_nonzero = turn_power _ _ _ _ _ _ _ _ c.loop-place.invariant.1 _ _ next c.power_of_ten.ensures; power_bound = turn_digit _ _ _ _ _ _ _ _ c.loop-place.invariant.1 _ _ next c.power_of_ten.ensures }
+pub put_digit-rest-requires-clause-power_nonzero : goal.put_digit-rest-requires-clause-power_nonzero
+put_digit-rest-requires-clause-power_nonzero c = turn_power _ _ c.power_of_ten.ensures
 
 pub loop-place-preserved : goal.loop-place-preserved
 loop-place-preserved c =

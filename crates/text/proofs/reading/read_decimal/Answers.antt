@@ -1,21 +1,25 @@
+use mathlib.Core.Path.{sym, ◌∙◌}
 use borrow.Author.Rules.{rules}
-use Rattle.text.proofs.DecimalText.{whole_length, whole_room, fraction_room, whole_only, with_fraction, long_fraction, stray_side}
+use Rattle.text.proofs.DecimalText.{whole_room, fraction_room, no_whole, whole_only, no_fraction, long_fraction, with_fraction}
 use Rattle.text.proofs.reading.read_decimal.Goals as goal
 
-pub read_whole-whole-requires : goal.read_whole-whole-requires
-read_whole-whole-requires c = search (rules, whole_room)
+pub read_whole-requires : goal.read_whole-requires
+read_whole-requires c = search (rules, whole_room)
 
-pub read_whole-all-requires : goal.read_whole-all-requires
-read_whole-all-requires c = search (rules, fraction_room)
+pub read_whole-requires-2 : goal.read_whole-requires-2
+read_whole-requires-2 c = fraction_room _ _ c.first_point-point.ensures (search rules) (sym c.read_whole.ensures ∙ c.in_ok-whole.was) (search rules)
 
-pub returns-then-count-le-MOST_DECIMALS : goal.returns-then-count-le-MOST_DECIMALS
-returns-then-count-le-MOST_DECIMALS c = search (rules, with_fraction)
+pub returns-in_err-whole : goal.returns-in_err-whole
+returns-in_err-whole c = search (rules, no_whole)
 
-pub returns-else-count-le-MOST_DECIMALS : goal.returns-else-count-le-MOST_DECIMALS
-returns-else-count-le-MOST_DECIMALS c = search (rules, long_fraction)
+pub returns-then-text-point : goal.returns-then-text-point
+returns-then-text-point c = search (rules, whole_only)
 
-pub returns-else-whole-all : goal.returns-else-whole-all
-returns-else-whole-all c = search (rules, stray_side)
+pub returns-in_err-value : goal.returns-in_err-value
+returns-in_err-value c = search (rules, no_fraction)
+
+pub returns-then-fraction-gt-MOST_DECIMALS : goal.returns-then-fraction-gt-MOST_DECIMALS
+returns-then-fraction-gt-MOST_DECIMALS c = search (rules, long_fraction)
 
 pub returns : goal.returns
-returns c = search (rules, whole_only)
+returns c = search (rules, with_fraction)

@@ -1,15 +1,12 @@
-use Prim.Native.Nat.{◌-◌}
-use native.Mathlib.Omega.{arith}
 use borrow.Author.Rules.{rules}
-use lib.ListN.{length}
-use Rattle.text.proofs.NumberText.{ReadSoFar, nothing_read, no_digits, stray, nine_digits, digit_here, digit_read, all_read}
+use Rattle.text.proofs.NumberText.{no_number, nothing_read, digit_read}
 use Rattle.text.proofs.reading.read_whole.Goals as goal
 
-pub returns-then-first_in-text : goal.returns-then-first_in-text
-returns-then-first_in-text c = search (rules, stray)
+pub returns-then-text-first_in : goal.returns-then-text-first_in
+returns-then-text-first_in c = no_number _ _ c.first_in.ensures c.if-text-first_in.true
 
-pub loop-i-init : goal.loop-i-init
-loop-i-init c = search (rules, nothing_read)
+pub loop-c-init : goal.loop-c-init
+loop-c-init c = search (rules, nothing_read)
 
-pub loop-i-preserved : goal.loop-i-preserved
-loop-i-preserved c = search (rules, digit_read)
+pub loop-c-preserved : goal.loop-c-preserved
+loop-c-preserved c = search (rules, digit_read)

@@ -1,30 +1,20 @@
-use mathlib.Core.Path.{◌≡◌}
-use mathlib.Core.Bool.{true, ◌&&◌}
 use borrow.Author.Rules.{rules}
-use Rattle.weight.specs.Rounding.{allowed_resolution, in_range}
-use Rattle.weight.proofs.Allowed.{both_left, both_right}
-use Rattle.weight.proofs.Moves.{move_known, move_unknown}
+use Rattle.weight.proofs.Moves.{last_far, move_refused, moved_by, net_far}
+use Rattle.std.proofs.lemmas.Option.{MatchOption-at_none, MatchOption-at_some}
 use Rattle.weight.proofs.changes.has_moved.Goals as goal
-use Rattle.weight.proofs.changes.has_moved.Lts
-use Rattle.weight.proofs.changes.has_moved.Tie
-use Rattle.weight.proofs.changes.has_moved.Reads
 
-abbrev Then-is_allowed-size_of : Type 0
-Then-is_allowed-size_of = Lts.Then1 Tie.the-claims Reads.Pre Reads.Post Tie.handed_clauses
+pub returns-in-Some-Some-Some : goal.returns-in-Some-Some-Some
+returns-in-Some-Some-Some c =
+    let i = c.in-Some-Some-Some in
+    let e = MatchOption-at_some _ _ _ i.is-0 c.if_allowed.ensures in
+    let f = MatchOption-at_some _ _ _ i.is-1 c.if_in_range.ensures in
+    moved_by _ _ _ _ i.r i.last i.net e f i.ensures c.reaches_threshold.ensures
 
--- resolution and nets are such as a device can meet
-known_at : (c : Then-is_allowed-size_of) →
-    let given = c.args in
-    (allowed_resolution given.resolution && in_range given.last.0 && in_range given.net.0) ≡ true
-known_at c = rw (c.size_of-2.ensures, c.size_of.ensures, c.is_allowed.ensures) at c.if-is_allowed-size_of.true
+pub returns-in_default : goal.returns-in_default
+returns-in_default c = search (rules, net_far)
 
-pub returns-then-is_allowed-size_of : goal.returns-then-is_allowed-size_of
-returns-then-is_allowed-size_of c =
-    let given = c.args in
-    rw (move_known given.resolution given.threshold.0 given.last.0 given.net.0 (known_at c.before)) c.reaches_threshold.ensures
+pub returns-in_default-2 : goal.returns-in_default-2
+returns-in_default-2 c = last_far _ _ _ _ (MatchOption-at_none _ _ c.in_default.is-1 c.if_in_range.ensures)
 
-pub returns : goal.returns
-returns c =
-    let given = c.args in
-    move_unknown given.resolution given.threshold.0 given.last.0 given.net.0
-    (rw (c.size_of-2.ensures, c.size_of.ensures, c.is_allowed.ensures) at c.if-is_allowed-size_of.false)
+pub returns-in_default-3 : goal.returns-in_default-3
+returns-in_default-3 c = move_refused _ _ _ _ (MatchOption-at_none _ _ c.in_default.is-0 c.if_allowed.ensures)

@@ -1,4 +1,3 @@
-use borrow.Author.Rules.{rules}
 use Rattle.weight.specs.Printing.{surely_fits}
 use Rattle.weight.proofs.printing.fits_surely.Goals as goal
 

@@ -1,5 +1,4 @@
 use Rattle.weight.specs.Ranges.{typed_resolution}
-use borrow.Author.Rules.{rules}
 use Rattle.weight.proofs.ranges.typed_resolution.Goals as goal
 
 pub returns : goal.returns

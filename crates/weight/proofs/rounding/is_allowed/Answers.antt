@@ -5,7 +5,5 @@ use Rattle.weight.proofs.rounding.is_allowed.Goals as goal
 pub returns-then-resolution-gt6 : goal.returns-then-resolution-gt6
 returns-then-resolution-gt6 c = search (rules, too_many_decimals)
 
-pub returns : goal.returns
-returns c =
-    rw (c.is_step_allowed.ensures, c.scale_of.ensures, c.divisor_of.ensures)
-    (few_decimals c.args.resolution c.if-resolution-gt6.false)
+pub returns-else-resolution-gt6 : goal.returns-else-resolution-gt6
+returns-else-resolution-gt6 c = rw (c.is_step_allowed.ensures, c.scale_of.ensures, c.divisor_of.ensures) (few_decimals c.args.resolution c.if-resolution-gt6.false)

@@ -1,6 +1,0 @@
-use borrow.Author.Rules.{rules}
-use Rattle.told.proofs.StateLines.{laid_unit}
-use Rattle.told.proofs.state.put_unit.Goals as goal
-
-pub returns : goal.returns
-returns c = search (rules, laid_unit)

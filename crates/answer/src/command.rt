@@ -1,6 +1,6 @@
 // The commands, each known by its place in the order in which I0 lists them.
 // Stays a u8: `name_of`, `level_of`, `find_command` and `emit_answer` answer every number, one that is no command's too.
-ghost use Rattle.std.specs.Prelude.{◌≡◌};
+ghost use Rattle.std.specs.Prelude.{◌≡◌, ◌≤◌, length};
 ghost use Rattle.answer.specs.Commands.{name_of, level_of, kind_of, takes_parameters, needs_sample, may_wait, has_text};
 
 pub const I0: u8 = 0;
@@ -97,6 +97,15 @@ pub fn name_of(command: u8) -> &'static [u8]
         M21 => b"M21",
         _ => b"",
     }
+}
+
+// How many bytes the name has: at most three.
+#[tactic(auto, using(crate::proofs::Names::name_short))]
+pub fn name_length(command: u8) -> usize
+    ensures value { result ≡ length (name_of command) }
+    ensures upper_bound { result ≤ 3 }
+{
+    name_of(command).len()
 }
 
 pub fn level_of(command: u8) -> u8

@@ -2,7 +2,7 @@
 use crate::tell::{tell, tell_refused};
 use std::io;
 
-#[derive(Drop)]
+#[derive(Clone, Copy)]
 pub struct Piece {
     bytes: [u8; 64],
     held: usize,

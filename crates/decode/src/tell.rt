@@ -2,7 +2,7 @@
 use answer::{Answer, Head, Number, level_of, name_of};
 use host::{read_line, write_line};
 use std::io;
-use text::{field_of, part, unit_text};
+use text::{field_cells, field_of, part, unit_text};
 use weight::{LastPlaces, WeightUnit};
 
 fn space(rt: &impl Print) -> io::Result<()> {
@@ -15,7 +15,7 @@ fn end(rt: &impl Print) -> io::Result<()> {
 
 // As a field with no decimals, which holds every number that a field with some holds.
 fn whole(rt: &impl Print, places: LastPlaces) -> io::Result<()> {
-    let field = field_of(0, places, false).unwrap_or([b' '; 10]);
+    let field = field_cells(field_of(0, places, false));
     rt.write_all(field.trim_ascii_start())
 }
 

@@ -5,7 +5,7 @@
 #![tactic(auto)]
 
 use measured::{Sums, with_bytes, with_number};
-use text::field_of;
+use text::{field_cells, field_of};
 use weight::signed_places;
 
 const RECORD: usize = 8;
@@ -21,8 +21,8 @@ pub fn proved_fields(numbers: &[u8]) -> u64 {
     let mut sums = Sums::default();
     for record in numbers.as_chunks::<RECORD>().0 {
         let field = field_in(record);
-        let cells = field.unwrap_or([b' '; 10]);
-        sums = with_bytes(with_number(sums, field.is_some() as u64), &cells);
+        let fits = field.is_some() as u64;
+        sums = with_bytes(with_number(sums, fits), &field_cells(field));
     }
     sums.high
 }

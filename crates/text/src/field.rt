@@ -1,9 +1,9 @@
 // The ten characters of a weight, or nine and a space: the number is written from its first digit to its last, each by subtracting a power of ten.
-ghost use Rattle.std.specs.Prelude.{◌≡◌, ◌∷◌, ◌++◌, ◌+◌, ◌-◌, ◌/◌, ◌%◌, ◌^◌, ◌≤◌, ◌<◌, length, take, drop, set};
+ghost use Rattle.std.specs.Prelude.{◌≡◌, ◌∷◌, ◌++◌, ◌+◌, ◌-◌, ◌/◌, ◌%◌, ◌^◌, ◌≤◌, ◌<◌, unwrap_or, length, take, drop, set};
 ghost use Rattle.weight.specs.Characters.{point, digit};
 ghost use Rattle.weight.specs.Places.{last_digits, decimal_of, number_text, width_of, characters_in, fits_field};
 ghost use Rattle.text.specs.Digits.{Begun};
-ghost use Rattle.text.specs.Field.{digit_count, field_if};
+ghost use Rattle.text.specs.Field.{digit_count, field_if, blank};
 
 use weight::{LastPlaces, fits, is_below_zero, size_of_number};
 
@@ -186,6 +186,13 @@ pub fn width_in(coarse: bool) -> usize
     ensures upper_bound { result ≤ 10 }
 {
     if coarse { 9 } else { 10 }
+}
+
+// The characters of a field, or ten spaces, which can be taken for no weight, where its number does not fit.
+pub fn field_cells(field: Option<[u8; 10]>) -> [u8; 10]
+    ensures { result ≡ unwrap_or field blank }
+{
+    field.unwrap_or([b' '; 10])
 }
 
 // The ten characters of a number; none where it does not fit.

@@ -8,7 +8,7 @@ mod scanning;
 mod typed;
 mod unit_texts;
 
-pub use field::field_of;
+pub use field::{field_cells, field_of};
 pub use reading::{FieldNumber, read_field};
 pub use scanning::{byte_at, first_at, first_space, is_printable, part, same_text};
 pub use typed::{read_preset, read_typed};

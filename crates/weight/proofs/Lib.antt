@@ -5,6 +5,7 @@ pub mod EveryNet
 pub mod HalfStep
 mod HalfUp
 pub mod Machine
+pub mod Matching
 pub mod Monotone
 pub mod Moves
 pub mod Nearness

@@ -72,7 +72,9 @@ fn is_short_exactly(resolution: Resolution, size: u32, steps: u64) -> bool
     is_step_allowed(resolution.step, scale, divisor) & (twice < limit)
 }
 
-// The same for a size that a profile can have: with few decimals no product has to be made.
+// The same for a size that a profile can have: with few decimals no product has to be made. Inlined, since a profile is tested by it
+// at every call, in each unit.
+#[inline(always)]
 pub fn is_short(resolution: Resolution, size: u32, steps: u64) -> bool
     requires { steps ≤ 10 }
     ensures { result ≡ leb size largest_reach && is_short steps resolution size }

@@ -19,7 +19,7 @@ fn found(rt: &impl Print, read: Option<FieldNumber>) -> io::Result<()> {
 fn there_and_back(rt: &impl Print, decimals: u8, places: i64, coarse: bool) -> io::Result<()> {
     let cells = text::field_of(decimals, LastPlaces(places), coarse);
     show::field(rt, cells)?;
-    found(rt, text::read_field(&cells.unwrap_or([b' '; 10])))
+    found(rt, text::read_field(&text::field_cells(cells)))
 }
 
 fn written(rt: &impl Print, decimals: u8, size: u64, coarse: bool) -> io::Result<()> {

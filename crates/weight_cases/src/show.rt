@@ -35,7 +35,7 @@ pub fn field(rt: &impl Print, cells: Option<[u8; 10]>) -> io::Result<()> {
         text(rt, b" no")?;
     }
     text(rt, b" [")?;
-    text(rt, &cells.unwrap_or([b' '; 10]))?;
+    text(rt, &text::field_cells(cells))?;
     text(rt, b"]")
 }
 

@@ -5,44 +5,26 @@
 mod entry;
 mod session;
 
-use session::{Session, close, on, take};
+use session::on;
 use std::io;
 use std::io::Read;
 
-// Every byte of a chunk, one after the other.
-fn take_all(rt: &impl Print, session: Session, chunk: &[u8]) -> io::Result<Session> {
-    let mut latest = session;
-    for byte in chunk {
-        latest = take(rt, latest, *byte)?;
-    }
-    Ok(latest)
-}
-
-// Reads once; none at the end of the input.
-fn take_some(
-    rt: &impl Print,
-    input: &mut impl Read,
-    session: Session,
-) -> io::Result<Option<Session>> {
-    let mut chunk = [0u8; 4096];
-    let n = input.read(&mut chunk)?;
-    if n < 1 {
-        close(rt, session)?;
-        Ok(None)
-    } else {
-        Ok(Some(take_all(rt, session, &chunk[..n])?))
-    }
-}
-
 // A proved loop has to end, and nothing says that an input does: it counts up to a number that no run reaches.
-fn main(rt: HostRuntime) -> io::Result<()> {
-    let mut input = rt.stdin();
-    let mut session = on(&rt)?;
+fn bench(rt: &impl Print, input: &mut impl Read) -> io::Result<()> {
+    let mut session = on(rt)?;
+    let mut chunk = [0u8; 4096];
     for _ in 0..u64::MAX {
-        let Some(next) = take_some(&rt, &mut input, session)? else {
-            return Ok(());
-        };
-        session = next;
+        let n = input.read(&mut chunk)?;
+        if n == 0 {
+            return session.close(rt);
+        }
+        for byte in &chunk[..n] {
+            session.take(rt, *byte)?;
+        }
     }
     Ok(())
+}
+
+fn main(rt: HostRuntime) -> io::Result<()> {
+    bench(&rt, &mut rt.stdin())
 }

@@ -16,9 +16,9 @@ use Rattle.model.specs.Profiles.{profile_allowed}
 use Rattle.model.specs.Refusals.{number_of_refusal}
 use Rattle.model.specs.States.{state_allowed}
 use Rattle.device.specs.declared.bytes.BytesTaken.{BytesTaken}
-use Rattle.device.specs.Calls.{admitted}
+use Rattle.device.specs.Calls.{admitted, admitted_by}
 use Rattle.device.specs.Buffers.{BytesOutcome, chosen_bytes, refused_bytes, lengths_allowed, buffer_limit, singly, served, bytes_outcome, GivesBytes, BytesCalled}
-use Rattle.device.proofs.Refusals.{tests, passed}
+use Rattle.device.proofs.Refusals.{passed}
 
 -- what the code returns where it refuses
 abbrev RefusesBytes : Refusal → State → BytesTaken → Type 0
@@ -29,7 +29,7 @@ refused_gives : {x : Refusal} {s : State} {room : List ℕ} {o : BytesOutcome} {
     → GivesBytes o r room
 refused_gives h e = record { numbered = rw (h, e); returned = rw (h, e); counted = rw (h, e); took = rw (h, e); left = rw e }
 
-refused_by : (b c : Bool) {x : Refusal} (s : State) (room : List ℕ) (next : BytesOutcome) → tests b c ≡ Err x
+refused_by : (b c : Bool) {x : Refusal} (s : State) (room : List ℕ) (next : BytesOutcome) → admitted_by b c ≡ Err x
     → chosen_bytes b (chosen_bytes c next (refused_bytes 2 s room)) (refused_bytes 1 s room) ≡ refused_bytes (number_of_refusal x) s room
 refused_by true true s room next e = absurd cc
 refused_by true false {x} s room next e = let is : ◌≡◌ {A = Refusal} refusals.State x = cc in rw (← is)

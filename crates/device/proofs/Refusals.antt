@@ -1,7 +1,7 @@
 -- What each call gives, by what leads to its return.
 -- Assumes nothing.
 use mathlib.Core.Path.{◌≡◌, refl, sym, ap, subst, ◌∙◌}
-use mathlib.Core.Bool.{Bool, true, false, cond}
+use mathlib.Core.Bool.{Bool, true, false}
 use mathlib.Core.List.{List}
 use Prim.Native.Nat.{ℕ}
 use native.Mathlib.Omega.{arith}
@@ -21,6 +21,7 @@ use Rattle.device.specs.declared.call.Called.{Called}
 use Rattle.device.specs.Calls.{
   Outcome,
   admitted,
+  admitted_by,
   answer_bytes,
   chosen_outcome,
   refused,
@@ -68,19 +69,20 @@ taken_gives h = record { numbered = rw h; returned = rw h; counted = rw h; left 
 
 -- ---- profile and state are let in, or one of them is refused
 
-abbrev pub tests : Bool → Bool → Result (Unit {0}) Refusal
-tests b c = cond b (cond c (Ok tt) (Err refusals.State)) (Err refusals.Profile)
-
-passed_by : (b c : Bool) {u : Unit {0}} → tests b c ≡ Ok u → (b ≡ true) × (c ≡ true)
+passed_by : (b c : Bool) {u : Unit {0}} → admitted_by b c ≡ Ok u → (b ≡ true) × (c ≡ true)
 passed_by true true e = (refl, refl)
 passed_by true false e = absurd cc
 passed_by false c e = absurd cc
 
-refused_by : (b c : Bool) {x : Refusal} (s : State) (room : List ℕ) (next : Outcome) → tests b c ≡ Err x
+refused_by : (b c : Bool) {x : Refusal} (s : State) (room : List ℕ) (next : Outcome) → admitted_by b c ≡ Err x
     → chosen_outcome b (chosen_outcome c next (refused 2 s room)) (refused 1 s room) ≡ refused (number_of_refusal x) s room
 refused_by true true s room next e = absurd cc
 refused_by true false {x} s room next e = let is : ◌≡◌ {A = Refusal} refusals.State x = cc in ap (λ (y : Refusal). refused (number_of_refusal y) s room) is
 refused_by false c {x} s room next e = let is : ◌≡◌ {A = Refusal} refusals.Profile x = cc in ap (λ (y : Refusal). refused (number_of_refusal y) s room) is
+
+-- the code asks by what the tests said
+pub asked_of : (p : Profile) (s : State) {x y : Bool} {a : Result (Unit {0}) Refusal} → x ≡ profile_allowed p → y ≡ state_allowed p s → a ≡ admitted_by x y → a ≡ admitted p s
+asked_of p s e f g = g ∙ rw (e, f)
 
 module _ (p : Profile) (s : State) {a : Result (Unit {0}) Refusal} (asked : a ≡ admitted p s) where
   pub passed : {u : Unit {0}} → a ≡ Ok u → (profile_allowed p ≡ true) × (state_allowed p s ≡ true)

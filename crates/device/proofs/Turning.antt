@@ -31,7 +31,7 @@ use Rattle.device.specs.Calls.{answer_bytes}
 use Rattle.device.specs.declared.bytes.BytesTaken.{BytesTaken}
 use Rattle.device.specs.Buffers.{BytesOutcome, Singly, joined, none_taken, singly, served, GivesBytes}
 use Rattle.device.proofs.Turns.{Turn, after_answers, to_come, TakenSoFar, TurnTaken}
-use Rattle.device.proofs.Taking.{served_next, after_none, after_after, ended_taken, ended_left, RunTaken, run_taken}
+use Rattle.device.proofs.Taking.{served_next, after_after, ended_taken, ended_left, RunTaken, run_taken}
 
 abbrev pub turn_of : State → ℕ → ℕ → Bool → Turn
 turn_of s count taken stopped = record { state = s; count = count; taken = taken; stopped = stopped }

@@ -68,8 +68,11 @@ unfoldable pub of_state : Profile → State → List ℕ → Outcome → Outcome
 of_state p s room next = chosen_outcome (state_allowed p s) next (refused 2 s room)
 
 -- the two of them, as the code asks for them
+abbrev pub admitted_by : Bool → Bool → Result (Unit {0}) Refusal
+admitted_by profile state = cond profile (cond state (Ok tt) (Err refusals.State)) (Err refusals.Profile)
+
 abbrev pub admitted : Profile → State → Result (Unit {0}) Refusal
-admitted p s = cond (profile_allowed p) (cond (state_allowed p s) (Ok tt) (Err refusals.State)) (Err refusals.Profile)
+admitted p s = admitted_by (profile_allowed p) (state_allowed p s)
 
 -- power-on sends the I4 line; it reads no earlier state
 unfoldable pub power_on_outcome : Profile → State → List ℕ → Outcome

@@ -10,7 +10,7 @@ use crate::buffer::emit_due;
 use crate::call::admitted;
 use commands::line_reaction;
 use line::receive_run;
-use model::{Profile, Refusal, State};
+use model::{Profile, Refusal, State, is_profile_allowed, is_state_allowed};
 
 // The serial driver delivers no more together.
 const BUFFER_LIMIT: usize = 4096;
@@ -92,7 +92,11 @@ pub fn take_bytes(
 ) -> BytesTaken
     ensures { BytesCalled profile state bytes.now marks.now out.old result out.new }
 {
-    if let Err(refusal) = admitted(profile, state) {
+    let asked = admitted(
+        is_profile_allowed(profile),
+        is_state_allowed(profile, state),
+    );
+    if let Err(refusal) = asked {
         return refused_bytes(refusal, state);
     }
     if bytes.len() != marks.len() || BUFFER_LIMIT < bytes.len() {

@@ -2,7 +2,7 @@
 // changed, and a refusal gives the given state back and leaves the buffer as it was. Most inputs are not answered: they change one
 // group of the state and need no buffer.
 ghost use Rattle.std.specs.Prelude.{◌≡◌, Ok, Err};
-ghost use Rattle.device.specs.Calls.{Gives, PowerOnCalled, ByteCalled, SampleCalled, delivered, admitted};
+ghost use Rattle.device.specs.Calls.{Gives, PowerOnCalled, ByteCalled, SampleCalled, delivered, admitted_by};
 
 use crate::buffer::emit_due;
 use answer::{Answer, I4};
@@ -41,14 +41,15 @@ fn taken(state: State, count: usize) -> Called
     }
 }
 
-// What every call but power-on asks before anything is changed. Inlined, it has no profile and no state copied for it.
+// What every call but power-on asks before anything is changed, by what the tests of profile and state say: of the two themselves, by
+// value, a copy would be made for it.
 #[inline(always)]
-pub fn admitted(profile: Profile, state: State) -> Result<(), Refusal>
-    ensures { result ≡ admitted profile state }
+pub fn admitted(profile_allowed: bool, state_allowed: bool) -> Result<(), Refusal>
+    ensures { result ≡ admitted_by profile_allowed state_allowed }
 {
-    if !is_profile_allowed(profile) {
+    if !profile_allowed {
         Err(Refusal::Profile)
-    } else if !is_state_allowed(profile, state) {
+    } else if !state_allowed {
         Err(Refusal::State)
     } else {
         Ok(())
@@ -82,12 +83,18 @@ pub fn power_on(profile: Profile, earlier: State, out: &mut [u8]) -> Called
 pub fn take_byte(profile: Profile, state: State, byte: u8, faulty: bool, out: &mut [u8]) -> Called
     ensures { ByteCalled profile state byte faulty out.old result out.new }
 {
-    if let Err(refusal) = admitted(profile, state) {
+    let asked = admitted(
+        is_profile_allowed(profile),
+        is_state_allowed(profile, state),
+    );
+    if let Err(refusal) = asked {
         return refused(refusal, state);
     }
     let received = receive_byte(state.line, byte, faulty);
     if received.ended {
-        delivered(profile, state, line_reaction(profile, state), out)
+        // Copied here, the profile is not copied for a byte that ends no line.
+        let kept = profile;
+        delivered(kept, state, line_reaction(profile, state), out)
     } else {
         taken(with_line(state, received.line), 0)
     }
@@ -103,12 +110,18 @@ pub fn take_sample(
 ) -> Called
     ensures { SampleCalled profile state load stable out.old result out.new }
 {
-    if let Err(refusal) = admitted(profile, state) {
+    let asked = admitted(
+        is_profile_allowed(profile),
+        is_state_allowed(profile, state),
+    );
+    if let Err(refusal) = asked {
         return refused(refusal, state);
     }
     if is_awaited(state) {
+        // Copied here, the profile is not copied for a sample that nothing awaits.
+        let kept = profile;
         let reaction = sample_reaction(profile, state, load, stable);
-        delivered(profile, state, reaction, out)
+        delivered(kept, state, reaction, out)
     } else {
         taken(sampled(state, load, stable), 0)
     }

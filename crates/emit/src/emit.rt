@@ -8,10 +8,21 @@ ghost use Rattle.emit.specs.Pieces.{joined, Laid};
 ghost use Rattle.emit.specs.Rooms.{emitted, laid_in};
 
 use answer::{
-    Answer, Error, Head, LAST, LIST_LENGTH, LISTED_LENGTH, NONE, Number, level_of, name_of,
+    Answer, Error, Head, LAST, LIST_LENGTH, LISTED_LENGTH, NONE, Number, level_of, name_length,
+    name_of,
 };
-use text::{field_of, unit_code, unit_text};
+use text::{field_cells, field_of, unit_code, unit_text};
 use weight::WeightUnit;
+
+// Stays a loop: `copy_from_slice` asks the C library for `memmove`, which a caller that links the static library may not have.
+fn copy(cells: &mut [u8], piece: &[u8])
+    requires { length cells.old ≡ length piece.now }
+    ensures { cells.new ≡ piece.now }
+{
+    for (i, cell) in cells.iter_mut().enumerate() {
+        *cell = piece[i];
+    }
+}
 
 // Copies the pieces one after another from `at` on; answers where the next one goes.
 // Stays `out` and `at`: a struct with the `&mut` would ask each function for a clause that it still is this buffer.
@@ -23,7 +34,7 @@ fn put(out: &mut [u8], at: usize, pieces: &[&[u8]]) -> usize
     for piece in pieces {
         let start = end;
         end += piece.len();
-        out[start..end].copy_from_slice(piece);
+        copy(&mut out[start..end], piece);
     }
     end
 }
@@ -44,7 +55,7 @@ fn put_weight(out: &mut [u8], head: Head, number: Number) -> usize
     ensures { Laid out.old 0 out.new result (head_text head ++ ascii " " ++ weight_text number ++ line_end) }
 {
     let middle = [b' ', u8::from(head.status), b' '];
-    let field = field_of(number.decimals, number.places, number.coarse).unwrap_or([b' '; 10]);
+    let field = field_cells(field_of(number.decimals, number.places, number.coarse));
     put(
         out,
         0,
@@ -123,13 +134,13 @@ fn line_length(answer: Answer, text: &[u8]) -> usize
 {
     match answer {
         Answer::Nothing => 0,
-        Answer::Plain(head) => name_of(head.identification).len() + 4,
+        Answer::Plain(head) => name_length(head.identification) + 4,
         Answer::Weight(head, number) => {
-            name_of(head.identification).len() + unit_text(number.unit).len() + 16
+            name_length(head.identification) + unit_text(number.unit).len() + 16
         }
         Answer::ErrorLine(_) => 4,
-        Answer::Text(command) => name_of(command).len() + text.len() + 7,
-        Answer::Listed(_, command) => name_of(command).len() + LISTED_LENGTH,
+        Answer::Text(command) => name_length(command) + text.len() + 7,
+        Answer::Listed(_, command) => name_length(command) + LISTED_LENGTH,
         Answer::CommandList => LIST_LENGTH,
         Answer::Versions => 24,
         Answer::HostUnit(unit) => unit_code(unit).len() + 10,

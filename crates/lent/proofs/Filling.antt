@@ -3,16 +3,16 @@
 use mathlib.Core.Path.{◌≡◌, refl, sym, ap, subst, ◌∙◌}
 use mathlib.Core.Bool.{Bool, true, false, not, ◌&&◌, ◌||◌}
 use mathlib.Core.List.{List, [], ◌∷◌}
-use Prim.Native.Nat.{ℕ, zero, suc, ◌+◌, ◌≤◌, ◌<◌}
-use native.Mathlib.Nat.{not-suc-le-zero, add-zero}
+use Prim.Native.Nat.{ℕ, zero, suc, min, ◌+◌, ◌-◌, ◌%◌, ◌≤◌, ◌<◌}
+use native.Mathlib.Nat.{not-suc-le-zero}
 use native.Mathlib.Numerals.{add-one}
 use native.Mathlib.Omega.{arith}
 use lib.Dec.{eqb, ltb}
 use borrow.Author.Tests.{ltb-true, ltb-false}
-use lib.ListN.{length, get_or, drop, set, take, length-append, length-set, length-drop, get_or-append}
-use lib.Seq.{get_or_at, take_all, take-suc-set}
-use Rattle.std.specs.List.{list_any, enumerate_from}
-use Rattle.std.proofs.lemmas.List.{get_or-drop}
+use lib.ListN.{length, get_or, drop, set, take, length-append, length-set, length-drop, drop_of_length-le, get_or-append}
+use lib.Seq.{drop-cons, get_or_at, take_all, take-suc-set}
+use Rattle.std.proofs.Math.Nat.{min-le_left, le-min, min-eq_left}
+use Rattle.std.proofs.lemmas.List.{get_or-take, get_or-drop}
 use Rattle.text.specs.Ascii.{same_text}
 use Rattle.lent.specs.Patterns.{cell_at, pattern, is_spilt}
 
@@ -63,35 +63,68 @@ module _ (seed long : ℕ) (l : List ℕ) (i : ℕ) (p : FilledSoFar seed long l
 
 -- ---- compared from a place on
 
--- the byte of a place is not as it was filled
-abbrev pub is_changed : ℕ → ℕ × ℕ → Bool
-is_changed seed p = not (eqb p.1 (cell_at seed p.0))
-
 not_and : (a b : Bool) → not (a && b) ≡ (not a || not b)
 not_and true b = refl
 not_and false b = refl
 
--- l has its first byte at place k, as m has by the pattern
-changed_from : (seed k : ℕ) (l m : List ℕ) → length l ≡ length m → ((i : ℕ) → i < length m → get_or m i 0 ≡ cell_at seed (k + i))
-    → list_any (is_changed seed) (enumerate_from k l) ≡ not (same_text l m)
-changed_from seed k [] [] e f = refl
-changed_from seed k [] (b ∷ m) e f = absurd (omega arith)
-changed_from seed k (a ∷ l) [] e f = absurd (omega arith)
-changed_from seed k (a ∷ l) (b ∷ m) e f =
-    let first : b ≡ cell_at seed k = f 0 (omega arith) ∙ ap (cell_at seed) (add-zero k) in
-    let rest = changed_from seed (k + 1) l m (omega arith) (λ i h. f (suc i) (omega arith) ∙ ap (cell_at seed) {y = k + 1 + i} (omega arith)) in
-    rw (not_and (eqb a b) (same_text l m), rest, first)
+or_assoc : (a b c : Bool) → (a || b) || c ≡ a || (b || c)
+or_assoc true b c = refl
+or_assoc false b c = refl
 
-drop_numbered : (n k : ℕ) (l : List ℕ) → drop n (enumerate_from k l) ≡ enumerate_from (k + n) (drop n l)
-drop_numbered zero k l = rw (add-zero k)
-drop_numbered (suc n) k [] = refl
-drop_numbered (suc n) k (a ∷ l) = drop_numbered n (k + 1) l ∙ ap (λ (x : ℕ). enumerate_from x (drop n l)) {y = k + suc n} (omega arith)
+or-false : (a : Bool) → a || false ≡ a
+or-false true = refl
+or-false false = refl
 
-pub spilt_told : (seed from : ℕ) (l : List ℕ) {r : Bool} → r ≡ list_any (is_changed seed) (drop from (enumerate_from 0 l)) → r ≡ is_spilt seed from l
-spilt_told seed from l e =
-    let whole = pattern seed (length l) in
-    let long : length whole ≡ length l = length_pattern seed (length l) in
-    e
-    ∙ ap (list_any (is_changed seed)) (drop_numbered from 0 l ∙ ap (λ (x : ℕ). enumerate_from x (drop from l)) {y = from} (omega arith))
-    ∙ changed_from seed from (drop from l) (drop from whole) (omega (arith, length-drop from l, length-drop from whole))
-    (λ i h. get_or-drop from whole i 0 ∙ pattern_at seed (length l) (from + i) (omega (arith, length-drop from whole)))
+-- what is left of a buffer from a place on, or from its end
+module _ (from m : ℕ) (l : List ℕ) (e : m ≡ min from (length l)) where
+  rest_length : length (take (length l - m) (drop m l)) ≡ length l - m
+  rest_length = ap length (take_all (length l - m) (drop m l) (omega (arith, length-drop m l))) ∙ length-drop m l
+
+  start_is : {k : ℕ} → k < length l - m → m ≡ from
+  start_is {k} h = go (ltb (length l) from) refl
+    where
+      go : (b : Bool) → ltb (length l) from ≡ b → m ≡ from
+      go true over =
+          let past : length l < from = ltb-true (length l) from over in
+          let most : length l ≤ min from (length l) = le-min (omega (arith, past)) (omega arith) in
+          absurd (omega (arith, h, e, most))
+      go false under = e ∙ min-eq_left (ltb-false (length l) from under)
+
+  pub rest_within : {k : ℕ} → k < length (take (length l - m) (drop m l)) → from + k < length l
+  rest_within {k} h =
+      let k_left : k < length l - m = omega (arith, h, rest_length) in
+      omega (arith, k_left, start_is k_left)
+
+  pub rest_at : {k : ℕ} → k < length (take (length l - m) (drop m l)) → get_or (take (length l - m) (drop m l)) k 0 ≡ get_or l (from + k) 0
+  rest_at {k} h =
+      let k_left : k < length l - m = omega (arith, h, rest_length) in
+      get_or-take (length l - m) (drop m l) k 0 k_left ∙ get_or-drop m l k 0 ∙ ap (λ (n : ℕ). get_or l (n + k) 0) (start_is k_left)
+
+  pub rest_done : {k : ℕ} → length (take (length l - m) (drop m l)) ≤ k → length l ≤ from + k
+  rest_done h = omega (arith, h, rest_length, e, min-le_left from (length l))
+
+-- spilt says whether a byte before place i is not as it was filled, and due is what place i was filled with
+pub record LookedAt (seed from : ℕ) (l : List ℕ) (spilt : Bool) (due : ℕ) (i : ℕ) : Type 0 where
+  pub told : spilt || is_spilt seed i l ≡ is_spilt seed from l
+  pub filled : due ≡ cell_at seed i
+
+module _ (seed from : ℕ) (l : List ℕ) (spilt : Bool) (due i : ℕ) (p : LookedAt seed from l spilt due i) where
+  pub one_looked : {b j : ℕ} → j ≡ i + 1 → i < length l → b ≡ get_or l i 0 → LookedAt seed from l (spilt || not (eqb b due)) ((due + 1) % 256) j
+  one_looked {b} z h e =
+      let whole = pattern seed (length l) in
+      let here : same_text (drop i l) (drop i whole) ≡ eqb b due && same_text (drop (i + 1) l) (drop (i + 1) whole) =
+      rw (add-one i, drop-cons l i 0 h, drop-cons whole i 0 (rw (length_pattern seed (length l)) h), pattern_at seed (length l) i h, e, p.filled) in
+      record {
+        told =
+            rw z
+            (or_assoc spilt (not (eqb b due)) (is_spilt seed (i + 1) l)
+            ∙ ap (λ (r : Bool). spilt || r) (sym (ap not here ∙ not_and (eqb b due) (same_text (drop (i + 1) l) (drop (i + 1) whole))))
+            ∙ p.told);
+        filled = omega (arith, z, p.filled);
+      }
+
+  pub all_looked : length l ≤ i → spilt ≡ is_spilt seed from l
+  all_looked h =
+      let none_left : is_spilt seed i l ≡ false =
+      rw (drop_of_length-le l h, drop_of_length-le (pattern seed (length l)) {i = i} (rw (length_pattern seed (length l)) h)) in
+      sym (or-false spilt) ∙ ap (λ (r : Bool). spilt || r) (sym none_left) ∙ p.told

@@ -20,12 +20,15 @@ pub fn fill(out: &mut [u8], seed: u8)
     }
 }
 
-// Whether a byte from place `from` on is not as it was filled.
+// Whether a byte from place `from` on is not as it was filled. Every byte is looked at, so that several are compared at once.
 pub fn is_spilt(out: &[u8], seed: u8, from: usize) -> bool
     ensures { result ≡ is_spilt seed from out.now }
 {
-    out.iter()
-        .enumerate()
-        .skip(from)
-        .any(|(i, byte)| *byte != cell(seed, i))
+    let mut due = cell(seed, from);
+    let mut spilt = false;
+    for byte in &out[from.min(out.len())..] {
+        spilt |= *byte != due;
+        due = due.wrapping_add(1);
+    }
+    spilt
 }

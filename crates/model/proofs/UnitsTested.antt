@@ -1,12 +1,13 @@
 -- The tests that the code makes of the units are those of the profile's lines.
 -- Assumes nothing.
 use mathlib.Core.Path.{◌≡◌, refl, sym, ap₂, ◌∙◌}
-use mathlib.Core.Bool.{Bool, true, false, not, ◌&&◌, and-true, and-false}
+use mathlib.Core.Bool.{Bool, true, false, not, ◌&&◌, and-true, and-false, and_assoc}
 use mathlib.Core.List.{List, [], ◌∷◌}
 use Prim.Native.Nat.{ℕ, ◌+◌, ◌≤◌}
 use native.Mathlib.Omega.{arith}
 use borrow.Author.Tests.{le-leb, not-false}
 use lib.Dec.{leb}
+use Rattle.std.specs.List.{fold}
 use Rattle.weight.specs.declared.units.WeightUnit.{WeightUnit}
 use Rattle.weight.specs.Printing.{largest_reach}
 use Rattle.weight.specs.Ranges.{ranged}
@@ -84,3 +85,12 @@ profile_tested p {limits} known e u t =
     let holds : limits_allowed p ≡ true = sym known ∙ not-false limits e in
     let facts : AllowedLimits p = allowed_limits p holds in
     ap₂ (λ (x y : Bool). x && y && fine_allowed p) (reached_allowed p facts.capacity_most facts.underload_most u) t ∙ sym (limits_allow p holds)
+
+-- ---- every unit asked, one after another
+
+every_along : (f : WeightUnit → Bool) (a : Bool) (us : List WeightUnit) → fold (λ (b : Bool) (u : WeightUnit). b && f u) a us ≡ (a && every_unit f us)
+every_along f a [] = sym (and-true a)
+every_along f a (u ∷ us) = every_along f (a && f u) us ∙ and_assoc a (f u) (every_unit f us)
+
+pub every_told : (f : WeightUnit → Bool) (us : List WeightUnit) {r : Bool} → r ≡ fold (λ (b : Bool) (u : WeightUnit). b && f u) true us → r ≡ every_unit f us
+every_told f us e = e ∙ every_along f true us

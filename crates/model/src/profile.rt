@@ -97,11 +97,21 @@ pub fn is_text_allowed<const N: usize>(text: &Text<N>) -> bool
     text.len == 0 || (text.len as usize <= N && is_printable(text.as_bytes()))
 }
 
+// The same of a copy: a profile whose text is lent where it lies would be copied whole.
+fn is_copy_allowed<const N: usize>(text: Text<N>) -> bool
+    ensures { result ≡ text_allowed N text.entry }
+{
+    is_text_allowed(&text)
+}
+
+// An empty text is not copied either.
 fn are_texts_allowed(profile: Profile) -> bool
     ensures { result ≡ texts_allowed profile }
 {
-    let long = is_text_allowed(&profile.model) & is_text_allowed(&profile.software);
-    let short = is_text_allowed(&profile.serial) & is_text_allowed(&profile.release);
+    let long = (profile.model.len == 0 || is_copy_allowed(profile.model))
+        & (profile.software.len == 0 || is_copy_allowed(profile.software));
+    let short = (profile.serial.len == 0 || is_copy_allowed(profile.serial))
+        & (profile.release.len == 0 || is_copy_allowed(profile.release));
     long & short
 }
 
@@ -114,12 +124,14 @@ fn are_limits_allowed(profile: Profile) -> bool
         & (1..=1000).contains(&profile.timeout)
 }
 
-// Whether every unit's resolution has what is asked of it.
+// Whether every unit's resolution has what is asked of it. Every one is asked, so that several are compared at once.
 fn every_unit<F: Fn(Resolution) -> bool>(rows: [Readability; 9], fits: F) -> bool
     requires { F.IsAlwaysCallable fits }
     ensures { AsksEach (F.post fits) rows result }
 {
-    UNITS.iter().all(|unit| fits(resolution_from(rows, *unit)))
+    UNITS
+        .iter()
+        .fold(true, |all, unit| all & fits(resolution_from(rows, *unit)))
 }
 
 // In every unit: with a coarse range that test alone, since what fits coarse fits fine; else closely, but only where the quick test, which

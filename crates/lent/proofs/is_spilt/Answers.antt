@@ -1,13 +1,16 @@
-use Rattle.std.proofs.Common.{rules, tests}
-use Rattle.std.proofs.lemmas.Iterator.{YieldsList-from_slice}
-use Rattle.std.proofs.lemmas.Iterator.Adapters.{YieldsList-from_skip}
-use Rattle.std.proofs.lemmas.Iterator.Consumers.{YieldsList-from_enumerate}
-use Rattle.std.proofs.lemmas.Iterator.Search.{any_from_yields_List}
-use Rattle.lent.proofs.Filling.{is_changed, spilt_told}
+use native.Mathlib.Omega.{arith}
+use Rattle.std.proofs.Common.{◌+◌}
+use Rattle.lent.proofs.Filling.{rest_within, rest_at, rest_done, one_looked, all_looked}
 use Rattle.lent.proofs.is_spilt.Goals as goal
+
+pub loop-byte-preserved : goal.loop-byte-preserved
+loop-byte-preserved c =
+    let l = c.args.out.now in
+    let here = c.loop-byte-test.true in
+    one_looked c.args.seed c.args.from l c.loop-byte.spilt c.loop-byte.due (c.args.from + c.loop-byte.byte-index) c.loop-byte.invariant (omega arith)
+    (rest_within c.args.from c.min.result l c.min.ensures here) (rest_at c.args.from c.min.result l c.min.ensures here)
 
 pub returns : goal.returns
 returns c =
-    let rest = YieldsList-from_skip c.args.from (YieldsList-from_enumerate (YieldsList-from_slice c.args.out.now (cc)) (cc)) (cc) in
-    spilt_told c.args.seed c.args.from c.args.out.now
-    (any_from_yields_List (is_changed c.args.seed) _ _ _ c.any.ensures.ran rest (λ x b q k. search (rules, tests)))
+    all_looked c.args.seed c.args.from c.args.out.now c.loop-byte.spilt c.loop-byte.due (c.args.from + c.loop-byte.byte-index) c.loop-byte.invariant
+    (rest_done c.args.from c.min.result c.args.out.now c.min.ensures c.loop-byte-test.false)

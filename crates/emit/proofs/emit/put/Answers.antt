@@ -7,11 +7,11 @@ overflow_add-end c =
     let room = piece_room c.args.out.now c.args.at c.loop-piece.piece-index c.args.pieces.now c.loop-piece-test.true c.loop-piece.invariant.1 c.requires c.loop-piece.invariant.0 in
     search rules
 
-pub slice_bounds-copy_from_slice-end : goal.slice_bounds-copy_from_slice-end
-slice_bounds-copy_from_slice-end c =
+pub slice_bounds-copy-end : goal.slice_bounds-copy-end
+slice_bounds-copy-end c =
     let room = piece_room c.args.out.now c.args.at c.loop-piece.piece-index c.args.pieces.now c.loop-piece-test.true c.loop-piece.invariant.1 c.requires c.loop-piece.invariant.0 in
     search rules
 
 pub loop-piece-preserved : goal.loop-piece-preserved
 loop-piece-preserved c =
-    piece_more c.args.out.now c.args.at c.loop-piece.piece-index c.args.pieces.now c.loop-piece-test.true c.loop-piece.invariant.1 c.requires c.loop-piece.invariant.0 c.copy_from_slice.ensures.after
+    piece_more c.args.out.now c.args.at c.loop-piece.piece-index c.args.pieces.now c.loop-piece-test.true c.loop-piece.invariant.1 c.requires c.loop-piece.invariant.0 c.copy.ensures

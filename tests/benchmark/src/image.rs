@@ -8,8 +8,8 @@ use std::fs;
 use std::io;
 use std::path::Path;
 
-/// The flash of the board has 174 KB for it.
-const FLASH: usize = 174 * 1024;
+/// The flash of the board has 176 KB for it.
+const FLASH: usize = 176 * 1024;
 
 /// What is asked for; a random history asks for the first three and for fields, or for whole buffers.
 const CALLS: u32 = 1;
